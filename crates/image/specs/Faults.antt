@@ -1,11 +1,13 @@
 -- The check of an image: the first fault of the first block that has one, tested in this order.
-use mathlib.Core.List.{List}
+use mathlib.Core.List.{List, _++_}
 use mathlib.Core.Bool.{Bool, cond, _&&_}
 use Prim.Native.Nat.{ℕ, zero, suc, _+_, _/_, _%_}
+use lib.Chars.{codes}
 use lib.Dec.{eqb, leb}
 use lib.ListN.{length, getD, drop}
 use Rattle.std.specs.declared.result.Result.{Result}
 use Rattle.std.specs.declared.result.Result.the-variants.{Ok, Err}
+use Rattle.std.specs.Written.{decimal}
 use Rattle.std.specs.shelf.Text.{sameBytes}
 use Rattle.values.specs.Packing.{number-at}
 use Rattle.image.specs.Blocks.{checks, row-of}
@@ -79,3 +81,12 @@ refusal-number (Kind q) = 16
 refusal-number (Mark q) = 17
 refusal-number (Check q) = 18
 refusal-number (Row q k byte) = 19
+
+-- the fault in words
+abbrev pub fault-text : Fault → List ℕ
+fault-text Length = codes "the length is not 1 to 64 blocks of 512 bytes"
+fault-text (Number q) = codes "block " ++ (decimal q ++ codes ": the block number is wrong")
+fault-text (Kind q) = codes "block " ++ (decimal q ++ codes ": the kind is another")
+fault-text (Mark q) = codes "block " ++ (decimal q ++ codes ": the mark or one of bytes 4 to 7 is not 0")
+fault-text (Check q) = codes "block " ++ (decimal q ++ codes ": the check does not fit")
+fault-text (Row q k byte) = codes "block " ++ (decimal q ++ (codes ", row " ++ (decimal k ++ (codes ": no value has the bytes from byte " ++ (decimal byte ++ codes " on")))))

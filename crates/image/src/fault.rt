@@ -1,6 +1,8 @@
 // What the check of an image finds first.
 ghost use mathlib.Core.Path.{_≡_};
-ghost use Rattle.image.specs.Faults.{refusal-number};
+ghost use Rattle.std.specs.declared.option.Option.the-variants.{Some};
+ghost use Rattle.image.specs.Faults.{refusal-number, fault-text};
+use std::fmt;
 
 #[derive(Clone, Copy, PartialEq, Debug)]
 pub enum Fault {
@@ -30,6 +32,21 @@ impl Fault {
             Fault::Mark { .. } => 17,
             Fault::Check { .. } => 18,
             Fault::Row { .. } => 19,
+        }
+    }
+}
+
+pub impl fmt::Display for Fault as FaultDisplay {
+    ghost shown = { λ f. Some (fault-text f) };
+
+    fn fmt<W: fmt::Write>(&self, f: &mut fmt::Formatter<W>) -> fmt::Result {
+        match *self {
+            Fault::Length => f.write_str("the length is not 1 to 64 blocks of 512 bytes"),
+            Fault::Number { block } => write!(f, "block {block}: the block number is wrong"),
+            Fault::Kind { block } => write!(f, "block {block}: the kind is another"),
+            Fault::Mark { block } => write!(f, "block {block}: the mark or one of bytes 4 to 7 is not 0"),
+            Fault::Check { block } => write!(f, "block {block}: the check does not fit"),
+            Fault::Row { block, row, byte } => write!(f, "block {block}, row {row}: no value has the bytes from byte {byte} on"),
         }
     }
 }

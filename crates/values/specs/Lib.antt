@@ -1,3 +1,4 @@
 pub mod Packing
 pub mod Levels
 pub mod Timings
+pub mod Texts

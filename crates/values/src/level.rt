@@ -17,6 +17,8 @@ pub enum LevelChange {
 }
 
 mod kind;
+mod text;
 
 pub use kind::LevelKind;
 pub use kind::Levels;
+pub use text::LevelDisplay;

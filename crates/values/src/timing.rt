@@ -39,6 +39,8 @@ pub enum TimingChange {
 }
 
 mod kind;
+mod text;
 
 pub use kind::TimingKind;
 pub use kind::Timings;
+pub use text::TimingDisplay;

@@ -27,7 +27,7 @@ fn link_of(n: u8) -> Link
     }
 }
 
-fn link_number(l: Link) -> u8
+pub(crate) fn link_number(l: Link) -> u8
     ensures { λ r. ⌜ r ≡ link-number l ⌝ }
 {
     match l {
