@@ -3,13 +3,13 @@ use std::env::Args;
 use std::error::AnyError;
 
 #[derive(Clone, Copy)]
-pub enum KindName {
+pub(crate) enum KindName {
     Level,
     Timing,
 }
 
 #[derive(Drop)]
-pub struct Asked {
+pub(crate) struct Asked {
     pub kind: KindName,
     pub blocks: u8,
     // None: the image is kept in memory alone.
@@ -31,7 +31,7 @@ fn block_count(word: &str) -> Result<u8, AnyError> {
     }
 }
 
-pub fn read_words(mut words: Args) -> Result<Asked, AnyError> {
+pub(crate) fn read_words(mut words: Args) -> Result<Asked, AnyError> {
     let _program = words.next();
     let kind = match words.next() {
         Some(word) => kind_named(word.as_str())?,

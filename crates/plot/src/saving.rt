@@ -19,7 +19,7 @@ fn write_new(rt: &LibcRuntime, path: &str, image: &[u8]) -> io::Result<()> {
 }
 
 // Writes a new file; one that is there already is left as it is.
-pub fn save_new(rt: &LibcRuntime, path: &str, image: &[u8]) -> Result<(), AnyError> {
+pub(crate) fn save_new(rt: &LibcRuntime, path: &str, image: &[u8]) -> Result<(), AnyError> {
     if fs::exists(rt, path)? {
         return Err("the file is there already and was left as it is: name a new one".into());
     }
@@ -33,6 +33,6 @@ fn replace(rt: &LibcRuntime, path: &str, image: &[u8]) -> io::Result<()> {
 }
 
 // Writes beside the file and then takes its place, so that a write that fails leaves the old file.
-pub fn save(rt: &LibcRuntime, path: &str, image: &[u8]) -> Result<(), AnyError> {
+pub(crate) fn save(rt: &LibcRuntime, path: &str, image: &[u8]) -> Result<(), AnyError> {
     at_file(rt, path, replace(rt, path, image))
 }

@@ -108,7 +108,7 @@ fn new_show<K: Kind>(rt: &LibcRuntime, name: &str, blocks: u8, file: &Option<Str
     Ok(image)
 }
 
-pub fn run_task<K: Kind>(rt: &LibcRuntime, name: &str, blocks: u8, file: &Option<String>, values: [K::Value; 3]) -> Result<(), AnyError>
+pub(crate) fn run_task<K: Kind>(rt: &LibcRuntime, name: &str, blocks: u8, file: &Option<String>, values: [K::Value; 3]) -> Result<(), AnyError>
 where
     K::Value: Display,
 {
