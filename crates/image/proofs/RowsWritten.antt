@@ -79,11 +79,11 @@ module _ (image : List ℕ) (n : ℕ) (bytes : List ℕ) (inside : n < row-count
   row-stays m h ne =
       ⊎-elim
       (λ (same : m / 31 ≡ n / 31).
-        let apart : m % 31 ≡ n % 31 → ⊥ = λ e. ne (omega arith) in
-        ap (λ (q : ℕ). row-of (block-of (row-written image n bytes) q) (m % 31)) same
-        ∙ written-block-row (m % 31) (omega arith)
-        ∙ row-written-other (block-of image (n / 31)) (n % 31) bytes block-long low wide (m % 31) (omega arith) apart
-        ∙ ap (λ (q : ℕ). row-of (block-of image q) (m % 31)) (sym same))
+      let apart : m % 31 ≡ n % 31 → ⊥ = λ e. ne (omega arith) in
+      ap (λ (q : ℕ). row-of (block-of (row-written image n bytes) q) (m % 31)) same
+      ∙ written-block-row (m % 31) (omega arith)
+      ∙ row-written-other (block-of image (n / 31)) (n % 31) bytes block-long low wide (m % 31) (omega arith) apart
+      ∙ ap (λ (q : ℕ). row-of (block-of image q) (m % 31)) (sym same))
       (λ (apart : m / 31 ≡ n / 31 → ⊥). ap (λ t. row-of t (m % 31)) (other-block (m / 31) (omega arith) apart))
       (cases-eq (m / 31) (n / 31))
 
@@ -99,16 +99,16 @@ set-counted : {X : Type 0} (f g : ℕ → X) (n i : ℕ) (y : X) → i < n → g
 set-counted f g n i y h at other =
     same-lists _ _ (length-map-counting g 0 n ∙ sym (length-set _ i y ∙ length-map-counting f 0 n))
     (λ k d low.
-      let l = length-map-counting g 0 n in
-      let lf = length-map-counting f 0 n in
-      let kn : k < n = omega arith in
-      let inn : i < length (map f (counting 0 n)) = omega arith in
-      let e : 0 + k ≡ k = omega arith in
-      getD-map-counting g 0 n k k d kn e ∙
-      ⊎-elim
-        (λ (s : k ≡ i). ap g s ∙ at ∙ sym (ap (λ (j : ℕ). getD (set (map f (counting 0 n)) i y) j d) s ∙ getD-set-same _ i y d inn))
-        (λ (ne : k ≡ i → ⊥). other k kn ne ∙ sym (getD-set-other (map f (counting 0 n)) i k y d ne ∙ getD-map-counting f 0 n k k d kn e))
-        (cases-eq k i))
+    let l = length-map-counting g 0 n in
+    let lf = length-map-counting f 0 n in
+    let kn : k < n = omega arith in
+    let inn : i < length (map f (counting 0 n)) = omega arith in
+    let e : 0 + k ≡ k = omega arith in
+    getD-map-counting g 0 n k k d kn e ∙
+    ⊎-elim
+    (λ (s : k ≡ i). ap g s ∙ at ∙ sym (ap (λ (j : ℕ). getD (set (map f (counting 0 n)) i y) j d) s ∙ getD-set-same _ i y d inn))
+    (λ (ne : k ≡ i → ⊥). other k kn ne ∙ sym (getD-set-other (map f (counting 0 n)) i k y d ne ∙ getD-map-counting f 0 n k k d kn e))
+    (cases-eq k i))
 
 -- which bytes a write leaves, inside and past the rows
 pub written-inside : (image : List ℕ) (n : ℕ) (bytes : List ℕ) → n < row-count (length image) → row-written image n bytes ≡ image-written image n bytes
@@ -140,8 +140,8 @@ module _ {V : Type 0} (home : V) (unpacked : List ℕ → Result V ℕ) where
   rows-written image n bytes v h wide e =
       ap (λ (k : ℕ). map (λ i. or-home home (unpacked (row-bytes (row-written image n bytes) i))) (counting 0 (row-count k))) (length-row-written image n bytes h wide)
       ∙ set-counted (λ i. or-home home (unpacked (row-bytes image i))) (λ i. or-home home (unpacked (row-bytes (row-written image n bytes) i))) (row-count (length image)) n v h
-        (ap (λ (t : List ℕ). or-home home (unpacked t)) (row-is-written image n bytes h wide) ∙ ap (or-home home) e)
-        (λ k hk ne. ap (λ (t : List ℕ). or-home home (unpacked t)) (row-stays image n bytes h wide k hk ne))
+      (ap (λ (t : List ℕ). or-home home (unpacked t)) (row-is-written image n bytes h wide) ∙ ap (or-home home) e)
+      (λ k hk ne. ap (λ (t : List ℕ). or-home home (unpacked t)) (row-stays image n bytes h wide k hk ne))
 
   pub rows-stay : (image : List ℕ) (n : ℕ) (v : V) → row-count (length image) ≤ n → image-rows home unpacked image ≡ set (image-rows home unpacked image) n v
   rows-stay image n v h = sym (set-past _ n v (rows-past image n h))

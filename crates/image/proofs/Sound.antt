@@ -56,9 +56,9 @@ clear-parts b e =
     one e4 e5 e6 e7 i h g =
         ⊎-elim (λ (s : i ≡ 4). ap (λ (j : ℕ). getD b j 0) s ∙ e4)
         (λ (n4 : i ≡ 4 → ⊥). ⊎-elim (λ (s : i ≡ 5). ap (λ (j : ℕ). getD b j 0) s ∙ e5)
-          (λ (n5 : i ≡ 5 → ⊥). ⊎-elim (λ (s : i ≡ 6). ap (λ (j : ℕ). getD b j 0) s ∙ e6)
-            (λ (n6 : i ≡ 6 → ⊥). let s : i ≡ 7 = omega (arith, n4, n5, n6) in ap (λ (j : ℕ). getD b j 0) s ∙ e7)
-            (cases-eq i 6)) (cases-eq i 5)) (cases-eq i 4)
+        (λ (n5 : i ≡ 5 → ⊥). ⊎-elim (λ (s : i ≡ 6). ap (λ (j : ℕ). getD b j 0) s ∙ e6)
+        (λ (n6 : i ≡ 6 → ⊥). let s : i ≡ 7 = omega (arith, n4, n5, n6) in ap (λ (j : ℕ). getD b j 0) s ∙ e7)
+        (cases-eq i 6)) (cases-eq i 5)) (cases-eq i 4)
 
 -- the last eight bytes of a block
 last-eight : (b : List ℕ) → length b ≡ 512 → part b 504 8 ≡ drop 504 b
@@ -133,9 +133,9 @@ module _ (kind : ℕ) (Row : List ℕ → Type 0) where
       (stays 2 (omega arith) ∙ s .of-kind)
       (λ i h g. stays i g ∙ s .zeros i h g)
       (λ m h. ⊎-elim
-        (λ (e : m ≡ k). subst Row (sym (ap (row-of (with-row b k bytes)) e ∙ row-written-is b k bytes long low wide)) good)
-        (λ (ne : m ≡ k → ⊥). subst Row (sym (row-written-other b k bytes long low wide m h ne)) (s .rows m h))
-        (cases-eq m k))
+      (λ (e : m ≡ k). subst Row (sym (ap (row-of (with-row b k bytes)) e ∙ row-written-is b k bytes long low wide)) good)
+      (λ (ne : m ≡ k → ⊥). subst Row (sym (row-written-other b k bytes long low wide m h ne)) (s .rows m h))
+      (cases-eq m k))
 
   -- an image with a good row written
   pub written-image-of : (image : List ℕ) (n : ℕ) (bytes : List ℕ) → n < row-count (length image) → length bytes ≡ 16 → Row bytes → Image-of kind Row image → Image-of kind Row (row-written image n bytes)
@@ -153,18 +153,20 @@ module _ (kind : ℕ) (Row : List ℕ → Type 0) where
       block q h =
           ⊎-elim
           (λ (e : q ≡ n / 31).
-            let P : List ℕ → Type 0 = Block-of kind Row q in
-            subst P (sym (ap (block-of (row-written image n bytes)) e ∙ written-block image n bytes inside wide))
-            (closed-block-of q (block-of image (n / 31)) (n % 31) bytes (block-long image n bytes inside wide) (omega arith) wide good (subst P (ap (block-of image) e) (s .blocks q h))))
+          let P : List ℕ → Type 0 = Block-of kind Row q in
+          subst P (sym (ap (block-of (row-written image n bytes)) e ∙ written-block image n bytes inside wide))
+          (closed-block-of q (block-of image (n / 31)) (n % 31) bytes (block-long image n bytes inside wide) (omega arith) wide good (subst P (ap (block-of image) e) (s .blocks q h))))
           (λ (ne : q ≡ n / 31 → ⊥).
-            let P : List ℕ → Type 0 = Block-of kind Row q in
-            subst P (sym (other-block image n bytes inside wide q (omega arith) ne)) (s .blocks q h))
+          let P : List ℕ → Type 0 = Block-of kind Row q in
+          subst P (sym (other-block image n bytes inside wide q (omega arith) ne)) (s .blocks q h))
           (cases-eq q (n / 31))
 
 -- rows that are good in one way are good in another that follows from it
 pub rows-weaker : (kind : ℕ) (P Q : List ℕ → Type 0) → ((bytes : List ℕ) → P bytes → Q bytes) → (image : List ℕ) → Image-of kind P image → Image-of kind Q image
 rows-weaker kind P Q f image s =
     record {
-      whole = s .whole; some-blocks = s .some-blocks; not-too-many = s .not-too-many;
+      whole = s .whole;
+      some-blocks = s .some-blocks;
+      not-too-many = s .not-too-many;
       blocks = λ q h. let b = s .blocks q h in record { number = b .number; of-kind = b .of-kind; no-mark = b .no-mark; zeros = b .zeros; check = b .check; rows = λ k g. f _ (b .rows k g) };
     }

@@ -47,14 +47,14 @@ check-fits b = sameBytes (checks b) (drop 504 b)
 abbrev pub block-check : {V : Type 0} → ℕ → (List ℕ → Result V ℕ) → ℕ → List ℕ → Verdict
 block-check kind unpacked q b =
     cond (eqb (number-at b 0) q)
-      (cond (eqb (getD b 2 0) kind)
-        (cond (clear b)
-          (cond (check-fits b)
-            (rows-check unpacked q b)
-            (Err (Check q)))
-          (Err (Mark q)))
-        (Err (Kind q)))
-      (Err (Number q))
+    (cond (eqb (getD b 2 0) kind)
+    (cond (clear b)
+    (cond (check-fits b)
+    (rows-check unpacked q b)
+    (Err (Check q)))
+    (Err (Mark q)))
+    (Err (Kind q)))
+    (Err (Number q))
 
 abbrev pub blocks-check : {V : Type 0} → ℕ → (List ℕ → Result V ℕ) → List ℕ → Verdict
 blocks-check kind unpacked image = check-each (λ q. block-check kind unpacked q (block-of image q)) 0 (length image / 512)
@@ -70,8 +70,8 @@ length-check len = cond (whole-blocks len) (Ok tt) (Err Length)
 abbrev pub image-check : {V : Type 0} → ℕ → (List ℕ → Result V ℕ) → List ℕ → Verdict
 image-check kind unpacked image =
     cond (whole-blocks (length image))
-      (blocks-check kind unpacked image)
-      (Err Length)
+    (blocks-check kind unpacked image)
+    (Err Length)
 
 -- the refusal's number
 abbrev pub refusal-number : Fault → ℕ

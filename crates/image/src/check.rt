@@ -99,7 +99,11 @@ fn check_rows<K: Kind>(block: &[u8], q: u8) -> Result<(), Fault>
 {
     for k in 0..31u8 {
         if let Err(byte) = K::unpack(row_of(block, k)) {
-            return Err(Fault::Row { block: q, row: k, byte });
+            return Err(Fault::Row {
+                block: q,
+                row: k,
+                byte,
+            });
         }
     }
     Ok(())

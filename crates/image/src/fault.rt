@@ -44,9 +44,15 @@ pub impl fmt::Display for Fault as FaultDisplay {
             Fault::Length => f.write_str("the length is not 1 to 64 blocks of 512 bytes"),
             Fault::Number { block } => write!(f, "block {block}: the block number is wrong"),
             Fault::Kind { block } => write!(f, "block {block}: the kind is another"),
-            Fault::Mark { block } => write!(f, "block {block}: the mark or one of bytes 4 to 7 is not 0"),
+            Fault::Mark { block } => write!(
+                f,
+                "block {block}: the mark or one of bytes 4 to 7 is not 0"
+            ),
             Fault::Check { block } => write!(f, "block {block}: the check does not fit"),
-            Fault::Row { block, row, byte } => write!(f, "block {block}, row {row}: no value has the bytes from byte {byte} on"),
+            Fault::Row { block, row, byte } => write!(
+                f,
+                "block {block}, row {row}: no value has the bytes from byte {byte} on"
+            ),
         }
     }
 }

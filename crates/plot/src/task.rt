@@ -28,13 +28,22 @@ fn say_check<K: Kind>(rt: &LibcRuntime, image: &[u8]) -> Result<(), AnyError> {
     Ok(())
 }
 
-fn write_records<K: Kind>(rt: &LibcRuntime, image: &mut [u8], values: &[K::Value; 3]) -> Result<(), AnyError>
+fn write_records<K: Kind>(
+    rt: &LibcRuntime,
+    image: &mut [u8],
+    values: &[K::Value; 3],
+) -> Result<(), AnyError>
 where
     K::Value: Display,
 {
-    let mut records = Numbered { below: BlockShelf { image } };
+    let mut records = Numbered {
+        below: BlockShelf { image },
+    };
     let count = Shelf::<K>::count(&records);
-    println!(rt, "Records: {count}; record n is row n + 1 of the image, and row 0 stays as it is.")?;
+    println!(
+        rt,
+        "Records: {count}; record n is row n + 1 of the image, and row 0 stays as it is."
+    )?;
     for (n, v) in values.iter().enumerate() {
         match Shelf::<K>::write(&mut records, n, *v) {
             Ok(()) => println!(rt, "Record {n}: written {v}.")?,
@@ -52,7 +61,9 @@ fn read_records<K: Kind>(rt: &LibcRuntime, image: &mut [u8]) -> Result<(), AnyEr
 where
     K::Value: Display,
 {
-    let records = Numbered { below: BlockShelf { image } };
+    let records = Numbered {
+        below: BlockShelf { image },
+    };
     for n in 0..4usize {
         match Shelf::<K>::read(&records, n) {
             Some(v) => println!(rt, "Record {n}: reads {v}.")?,
@@ -68,7 +79,10 @@ fn damage(rt: &LibcRuntime, image: &mut [u8]) -> Result<(), AnyError> {
         let was = image[DAMAGED];
         let is = was ^ 1;
         image[DAMAGED] = is;
-        println!(rt, "Damage: byte {DAMAGED} of the image was {was} and is now {is}.")?;
+        println!(
+            rt,
+            "Damage: byte {DAMAGED} of the image was {was} and is now {is}."
+        )?;
     }
     Ok(())
 }
@@ -78,14 +92,20 @@ fn mend<K: Kind>(rt: &LibcRuntime, image: &mut [u8], v: K::Value) -> Result<(), 
 where
     K::Value: Display,
 {
-    let mut records = Numbered { below: BlockShelf { image } };
+    let mut records = Numbered {
+        below: BlockShelf { image },
+    };
     let _ = Shelf::<K>::write(&mut records, 0, v);
     println!(rt, "Mended: record 0 written again, {v}.")?;
     Ok(())
 }
 
 // The image goes to the file and comes back from it, where a file was named.
-fn through_file(rt: &LibcRuntime, file: &Option<String>, image: &mut Vec<u8>) -> Result<(), AnyError> {
+fn through_file(
+    rt: &LibcRuntime,
+    file: &Option<String>,
+    image: &mut Vec<u8>,
+) -> Result<(), AnyError> {
     if let Some(path) = file {
         save(rt, path.as_str(), image.as_slice())?;
         *image = fs::read(rt, path.as_str())?;
@@ -95,7 +115,12 @@ fn through_file(rt: &LibcRuntime, file: &Option<String>, image: &mut Vec<u8>) ->
     Ok(())
 }
 
-fn new_show<K: Kind>(rt: &LibcRuntime, name: &str, blocks: u8, file: &Option<String>) -> Result<Vec<u8>, AnyError> {
+fn new_show<K: Kind>(
+    rt: &LibcRuntime,
+    name: &str,
+    blocks: u8,
+    file: &Option<String>,
+) -> Result<Vec<u8>, AnyError> {
     let mut image = vec![in rt.alloc(); 0u8; 512 * usize::from(blocks)]?;
     if let Err(fault) = new_image::<K>(&mut image) {
         return Err(format!(rt.alloc(), "{fault}")?.into());
@@ -104,11 +129,20 @@ fn new_show<K: Kind>(rt: &LibcRuntime, name: &str, blocks: u8, file: &Option<Str
         save_new(rt, path.as_str(), image.as_slice())?;
     }
     let length = image.len();
-    println!(rt, "New image: kind {name}, blocks {blocks}, bytes {length}.")?;
+    println!(
+        rt,
+        "New image: kind {name}, blocks {blocks}, bytes {length}."
+    )?;
     Ok(image)
 }
 
-pub(crate) fn run_task<K: Kind>(rt: &LibcRuntime, name: &str, blocks: u8, file: &Option<String>, values: [K::Value; 3]) -> Result<(), AnyError>
+pub(crate) fn run_task<K: Kind>(
+    rt: &LibcRuntime,
+    name: &str,
+    blocks: u8,
+    file: &Option<String>,
+    values: [K::Value; 3],
+) -> Result<(), AnyError>
 where
     K::Value: Display,
 {

@@ -18,8 +18,8 @@ use Rattle.image.specs.declared.fault.Fault.the-variants.{Length, Number, Kind,
 abbrev pub host-check : ℕ → List ℕ → Verdict
 host-check kind image =
     cond (eqb kind 1) (image-check 1 level-unpacked image)
-      (cond (eqb kind 2) (image-check 2 timing-unpacked image)
-        (cond (whole-blocks (length image)) (Err (Kind 0)) (Err Length)))
+    (cond (eqb kind 2) (image-check 2 timing-unpacked image)
+    (cond (whole-blocks (length image)) (Err (Kind 0)) (Err Length)))
 
 -- a sound image of the kind with this number
 abbrev pub Sound-of : ℕ → List ℕ → Type 0

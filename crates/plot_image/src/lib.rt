@@ -52,7 +52,11 @@ fn row_of(fault: Fault) -> u32
 {
     match fault {
         Fault::Row { row, .. } => u32::from(row),
-        Fault::Length | Fault::Number { .. } | Fault::Kind { .. } | Fault::Mark { .. } | Fault::Check { .. } => 0,
+        Fault::Length
+        | Fault::Number { .. }
+        | Fault::Kind { .. }
+        | Fault::Mark { .. }
+        | Fault::Check { .. } => 0,
     }
 }
 

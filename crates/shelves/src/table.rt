@@ -15,11 +15,15 @@ pub struct Table<'a, K: Kind> {
     pub lines: &'a mut [K::Numbers],
 }
 
-// Element n, if there is one.
-fn element<T: Copy>(xs: &[T], n: usize) -> Option<T>
-    ensures { λ r. ⌜ r ≡ nth (now (xs .entry)) n ⌝ }
+// The value at row n, if there is such a row.
+fn value_at<K: Kind>(lines: &[K::Numbers], n: usize) -> Option<K::Value>
+    ensures { λ r. ⌜ r ≡ nth (map (K·Kind .reading) (now (lines .entry))) n ⌝ }
 {
-    if n < xs.len() { Some(xs[n]) } else { None }
+    if n < lines.len() {
+        Some(K::of_numbers(lines[n]))
+    } else {
+        None
+    }
 }
 
 pub impl<'a, K: Kind> Shelf<K> for Table<'a, K> as TableShelf {
@@ -34,10 +38,7 @@ pub impl<'a, K: Kind> Shelf<K> for Table<'a, K> as TableShelf {
     }
 
     fn read(&self, n: usize) -> Option<K::Value> {
-        match element(self.lines, n) {
-            Some(numbers) => Some(K::of_numbers(numbers)),
-            None => None,
-        }
+        value_at::<K>(self.lines, n)
     }
 
     // The last clause is the table's own: what the host's memory then holds.

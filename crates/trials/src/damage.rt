@@ -56,20 +56,90 @@ fn damaged_levels() -> Result<(), Fail> {
     let mut good = [0u8; 1024];
     check(new_image::<Levels>(&mut good).is_ok())?;
     let table = [
-        Damage { at: 0, byte: 1, closed: true, expected: 15 },
-        Damage { at: 513, byte: 1, closed: true, expected: 15 + 256 },
-        Damage { at: 2, byte: 2, closed: true, expected: 16 },
-        Damage { at: 514, byte: 0, closed: true, expected: 16 + 256 },
-        Damage { at: 3, byte: 1, closed: true, expected: 17 },
-        Damage { at: 4, byte: 1, closed: true, expected: 17 },
-        Damage { at: 519, byte: 9, closed: true, expected: 17 + 256 },
-        Damage { at: 504, byte: 77, closed: false, expected: 18 },
-        Damage { at: 1023, byte: 77, closed: false, expected: 18 + 256 },
-        Damage { at: 8, byte: 1, closed: false, expected: 18 },
-        Damage { at: 8, byte: 255, closed: true, expected: 0 },
-        Damage { at: 10, byte: 1, closed: true, expected: 19 },
-        Damage { at: 8 + 16 * 30 + 15, byte: 1, closed: true, expected: 19 + 65_536 * 30 },
-        Damage { at: 512 + 8 + 16 * 5 + 2, byte: 1, closed: true, expected: 19 + 256 + 65_536 * 5 },
+        Damage {
+            at: 0,
+            byte: 1,
+            closed: true,
+            expected: 15,
+        },
+        Damage {
+            at: 513,
+            byte: 1,
+            closed: true,
+            expected: 15 + 256,
+        },
+        Damage {
+            at: 2,
+            byte: 2,
+            closed: true,
+            expected: 16,
+        },
+        Damage {
+            at: 514,
+            byte: 0,
+            closed: true,
+            expected: 16 + 256,
+        },
+        Damage {
+            at: 3,
+            byte: 1,
+            closed: true,
+            expected: 17,
+        },
+        Damage {
+            at: 4,
+            byte: 1,
+            closed: true,
+            expected: 17,
+        },
+        Damage {
+            at: 519,
+            byte: 9,
+            closed: true,
+            expected: 17 + 256,
+        },
+        Damage {
+            at: 504,
+            byte: 77,
+            closed: false,
+            expected: 18,
+        },
+        Damage {
+            at: 1023,
+            byte: 77,
+            closed: false,
+            expected: 18 + 256,
+        },
+        Damage {
+            at: 8,
+            byte: 1,
+            closed: false,
+            expected: 18,
+        },
+        Damage {
+            at: 8,
+            byte: 255,
+            closed: true,
+            expected: 0,
+        },
+        Damage {
+            at: 10,
+            byte: 1,
+            closed: true,
+            expected: 19,
+        },
+        Damage {
+            at: 8 + 16 * 30 + 15,
+            byte: 1,
+            closed: true,
+            expected: 19 + 65_536 * 30,
+        },
+        Damage {
+            at: 512 + 8 + 16 * 5 + 2,
+            byte: 1,
+            closed: true,
+            expected: 19 + 256 + 65_536 * 5,
+        },
     ];
     try_all(&good, 1, &table)
 }
@@ -79,15 +149,60 @@ fn damaged_timings() -> Result<(), Fail> {
     let mut good = [0u8; 1024];
     check(new_image::<Timings>(&mut good).is_ok())?;
     let table = [
-        Damage { at: 2, byte: 1, closed: true, expected: 16 },
-        Damage { at: 8, byte: 255, closed: true, expected: 0 },
-        Damage { at: 9, byte: 141, closed: true, expected: 19 },
-        Damage { at: 8 + 16 + 3, byte: 141, closed: true, expected: 19 + 65_536 },
-        Damage { at: 512 + 8 + 5, byte: 255, closed: true, expected: 19 + 256 },
-        Damage { at: 14, byte: 2, closed: true, expected: 0 },
-        Damage { at: 14, byte: 3, closed: true, expected: 19 },
-        Damage { at: 15, byte: 1, closed: true, expected: 19 },
-        Damage { at: 8 + 16 * 30 + 15, byte: 1, closed: true, expected: 19 + 65_536 * 30 },
+        Damage {
+            at: 2,
+            byte: 1,
+            closed: true,
+            expected: 16,
+        },
+        Damage {
+            at: 8,
+            byte: 255,
+            closed: true,
+            expected: 0,
+        },
+        Damage {
+            at: 9,
+            byte: 141,
+            closed: true,
+            expected: 19,
+        },
+        Damage {
+            at: 8 + 16 + 3,
+            byte: 141,
+            closed: true,
+            expected: 19 + 65_536,
+        },
+        Damage {
+            at: 512 + 8 + 5,
+            byte: 255,
+            closed: true,
+            expected: 19 + 256,
+        },
+        Damage {
+            at: 14,
+            byte: 2,
+            closed: true,
+            expected: 0,
+        },
+        Damage {
+            at: 14,
+            byte: 3,
+            closed: true,
+            expected: 19,
+        },
+        Damage {
+            at: 15,
+            byte: 1,
+            closed: true,
+            expected: 19,
+        },
+        Damage {
+            at: 8 + 16 * 30 + 15,
+            byte: 1,
+            closed: true,
+            expected: 19 + 65_536 * 30,
+        },
     ];
     try_all(&good, 2, &table)
 }

@@ -7,7 +7,14 @@ use values::level::Levels;
 
 #[test]
 fn only_whole_blocks_pass(rt: LibcRuntime) -> Result<(), Fail> {
-    for (length, expected) in [(0usize, 14u32), (511, 14), (512, 0), (513, 14), (32_768, 0), (33_280, 14)] {
+    for (length, expected) in [
+        (0usize, 14u32),
+        (511, 14),
+        (512, 0),
+        (513, 14),
+        (32_768, 0),
+        (33_280, 14),
+    ] {
         let mut image = vec![in rt.alloc(); 7u8; length]?;
         let made = new_image::<Levels>(&mut image);
         check_eq(made.is_ok(), expected == 0)?;

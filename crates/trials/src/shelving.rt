@@ -25,8 +25,27 @@ use values::timing::Timings;
 
 #[test]
 fn a_table_reads_other_numbers_as_home() -> Result<(), Fail> {
-    let good = TimingNumbers { up: 36_000, down: 1, wait: 2, link: 2 };
-    let mut lines = [good, TimingNumbers { up: 36_001, down: 0, wait: 0, link: 0 }, TimingNumbers { up: 0, down: 0, wait: 0, link: 3 }];
+    let good = TimingNumbers {
+        up: 36_000,
+        down: 1,
+        wait: 2,
+        link: 2,
+    };
+    let mut lines = [
+        good,
+        TimingNumbers {
+            up: 36_001,
+            down: 0,
+            wait: 0,
+            link: 0,
+        },
+        TimingNumbers {
+            up: 0,
+            down: 0,
+            wait: 0,
+            link: 3,
+        },
+    ];
     let table: Table<Timings> = Table { lines: &mut lines };
     check_eq(table.count(), 3)?;
     check_eq(table.read(0), Some(TimingKind::of_numbers(good)))?;
@@ -59,7 +78,14 @@ fn the_layer_over_nothing_is_empty() -> Result<(), Fail> {
 
 #[test]
 fn the_block_shelf_counts_whole_blocks(rt: LibcRuntime) -> Result<(), Fail> {
-    for (length, expected) in [(0usize, 0usize), (511, 0), (512, 31), (1023, 31), (32_768, 1984), (33_280, 1984)] {
+    for (length, expected) in [
+        (0usize, 0usize),
+        (511, 0),
+        (512, 31),
+        (1023, 31),
+        (32_768, 1984),
+        (33_280, 1984),
+    ] {
         let mut image = vec![in rt.alloc(); 0u8; length]?;
         let shelf = BlockShelf { image: &mut image };
         check_eq(Shelf::<Levels>::count(&shelf), expected)?;
@@ -76,10 +102,19 @@ fn a_write_mends_its_block() -> Result<(), Fail> {
     image[510] = 99;
     check(image_check::<Levels>(&image).is_err())?;
     let mut shelf = BlockShelf { image: &mut image };
-    check_eq(Shelf::<Levels>::write(&mut shelf, 7, Level { value: 0 }), Ok(()))?;
+    check_eq(
+        Shelf::<Levels>::write(&mut shelf, 7, Level { value: 0 }),
+        Ok(()),
+    )?;
     check(image_check::<Levels>(shelf.image).is_ok())?;
-    check_eq(Shelf::<Levels>::write(&mut shelf, 31, Level { value: 5 }), Err(PastCount))?;
-    check_eq(Shelf::<Levels>::write(&mut shelf, 30, Level { value: 5 }), Ok(()))?;
+    check_eq(
+        Shelf::<Levels>::write(&mut shelf, 31, Level { value: 5 }),
+        Err(PastCount),
+    )?;
+    check_eq(
+        Shelf::<Levels>::write(&mut shelf, 30, Level { value: 5 }),
+        Ok(()),
+    )?;
     check_eq(Shelf::<Levels>::read(&shelf, 30), Some(Level { value: 5 }))?;
     check(image_check::<Levels>(shelf.image).is_ok())
 }

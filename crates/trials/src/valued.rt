@@ -25,7 +25,10 @@ fn levels_stop_at_their_limits() -> Result<(), Fail> {
     check_eq(home.value, 0)?;
     let high = LevelKind::apply(home, LevelChange::Set(65_000));
     check_eq(LevelKind::apply(high, LevelChange::Up(535)).value, 65_535)?;
-    check_eq(LevelKind::apply(high, LevelChange::Up(65_535)).value, 65_535)?;
+    check_eq(
+        LevelKind::apply(high, LevelChange::Up(65_535)).value,
+        65_535,
+    )?;
     check_eq(LevelKind::apply(high, LevelChange::Down(65_000)).value, 0)?;
     check_eq(LevelKind::apply(high, LevelChange::Down(65_535)).value, 0)
 }
@@ -46,9 +49,18 @@ fn levels_pack_little_endian() -> Result<(), Fail> {
 #[test]
 fn timings_stop_at_an_hour() -> Result<(), Fail> {
     let home = TimingKind::home();
-    check_eq(TimingKind::apply(home, TimingChange::FadeUp(36_001)).up, 36_000)?;
-    check_eq(TimingKind::apply(home, TimingChange::FadeDown(36_000)).down, 36_000)?;
-    check_eq(TimingKind::apply(home, TimingChange::Wait(65_535)).wait, 36_000)?;
+    check_eq(
+        TimingKind::apply(home, TimingChange::FadeUp(36_001)).up,
+        36_000,
+    )?;
+    check_eq(
+        TimingKind::apply(home, TimingChange::FadeDown(36_000)).down,
+        36_000,
+    )?;
+    check_eq(
+        TimingKind::apply(home, TimingChange::Wait(65_535)).wait,
+        36_000,
+    )?;
     let linked = TimingKind::apply(home, TimingChange::Link(1));
     check_eq(TimingKind::apply(linked, TimingChange::Link(3)), linked)?;
     check_ne(TimingKind::apply(linked, TimingChange::Link(2)), linked)
@@ -58,7 +70,14 @@ fn timings_stop_at_an_hour() -> Result<(), Fail> {
 fn timings_name_the_first_bad_byte() -> Result<(), Fail> {
     let home = TimingKind::pack(TimingKind::home());
     check_eq(TimingKind::unpack(home), Ok(TimingKind::home()))?;
-    for (at, byte, named) in [(1usize, 141u8, 0u8), (3, 255, 2), (5, 200, 4), (6, 3, 6), (7, 1, 7), (15, 9, 15)] {
+    for (at, byte, named) in [
+        (1usize, 141u8, 0u8),
+        (3, 255, 2),
+        (5, 200, 4),
+        (6, 3, 6),
+        (7, 1, 7),
+        (15, 9, 15),
+    ] {
         check_eq(TimingKind::unpack(with(home, at, byte)), Err(named))?;
     }
     Ok(())

@@ -45,11 +45,11 @@ found-after-zeros [] s k e = absurd (none-is-not-some (sym e))
 found-after-zeros (b ∷ bs) s k e =
     ⊎-elim
     (λ (h : b ≡ 0).
-      let i = found-after-zeros bs (s + 1) k (sym (pass-zero b bs s h) ∙ e) in
-      (omega (arith, i .0), omega (arith, i .1), λ j. later h (i .2) j))
+    let i = found-after-zeros bs (s + 1) k (sym (pass-zero b bs s h) ∙ e) in
+    (omega (arith, i .0), omega (arith, i .1), λ j. later h (i .2) j))
     (λ (h : b ≡ 0 → ⊥).
-      let same : s ≡ k = let f = find-nonzero b bs s h in cc in
-      (omega arith, omega arith, λ j low. absurd (omega arith)))
+    let same : s ≡ k = let f = find-nonzero b bs s h in cc in
+    (omega arith, omega arith, λ j low. absurd (omega arith)))
     (cases-eq b 0)
   where
     later : b ≡ 0 → ((j : ℕ) → s + 1 + j < k → getD bs j 0 ≡ 0) → (j : ℕ) → s + j < k → getD (b ∷ bs) j 0 ≡ 0
@@ -121,12 +121,13 @@ module _ {V : Type 0} {n : ℕ} {parts : V → List ℕ} {offence : List ℕ →
 
   -- a packed value is 16 bytes
   pub size : (v : V) → Bytes16 (padded n (parts v))
-  size v =
-      (padded-long v,
-      λ k. ⊎-elim
+  size v = (
+    padded-long v,
+    λ k. ⊎-elim
         (λ (h : k < n). let e = at-part v k h in let s = p .small v k in omega arith)
         (λ (h : n ≤ k). let e = at-zero v k h in omega arith)
-        (cases-lt k n))
+        (cases-lt k n),
+  )
 
   -- a packed value unpacks to itself
   pub back : (v : V) → unpadded n offence made (padded n (parts v)) ≡ Ok v
@@ -149,10 +150,14 @@ module _ {V : Type 0} {n : ℕ} {parts : V → List ℕ} {offence : List ℕ →
       let g = p .begins b k row e in
       let v = g .2 .0 in
       let low : k ≤ n = g .0 in
-      let few = p .few in let long = p .long v in let l = row .0 in let pl = padded-long v in
-      (g .1, (v,
-      same-front (padded n (parts v)) b k (omega arith) (omega arith)
-      (λ j h. at-part v j (omega arith) ∙ sym (getD-take k (parts v) j 0 h) ∙ ap (λ (t : List ℕ). getD t j 0) (g .2 .1) ∙ getD-take k b j 0 h)))
+      let few = p .few in let long = p .long v in let l = row .0 in let pl = padded-long v in (
+        g .1,
+        (
+          v,
+          same-front (padded n (parts v)) b k (omega arith) (omega arith)
+              (λ j h. at-part v j (omega arith) ∙ sym (getD-take k (parts v) j 0 h) ∙ ap (λ (t : List ℕ). getD t j 0) (g .2 .1) ∙ getD-take k b j 0 h),
+        ),
+      )
 
   -- an offending byte after the parts: before it the bytes are those of the value made of the parts
   zero-offends : (b : List ℕ) (k : ℕ) → Bytes16 b → offence b ≡ None → first-nonzero (drop n b) n ≡ Some k → Begins-as (λ (v : V). padded n (parts v)) b k
@@ -160,15 +165,19 @@ module _ {V : Type 0} {n : ℕ} {parts : V → List ℕ} {offence : List ℕ →
       let v = made b in
       let g = found-after-zeros (drop n b) n k f in
       let ld = length-drop n b in let l = row .0 in let pl = padded-long v in let few = p .few in
-      let low : k < 16 = omega (arith, g .0, g .1) in
-      (low, (v,
-      same-front (padded n (parts v)) b k (omega arith) (omega arith)
-      (λ j h. ⊎-elim
-        (λ (m : j < n). at-part v j m ∙ ap (λ (t : List ℕ). getD t j 0) (p .fronts b row e) ∙ getD-take n b j 0 m)
-        (λ (m : n ≤ j).
-          let s : n + (j - n) ≡ j = omega arith in
-          at-zero v j m ∙ sym (ap (λ (i : ℕ). getD b i 0) (sym s) ∙ sym (getD-drop n b (j - n) 0) ∙ g .2 (j - n) (omega arith)))
-        (cases-lt j n))))
+      let low : k < 16 = omega (arith, g .0, g .1) in (
+        low,
+        (
+          v,
+          same-front (padded n (parts v)) b k (omega arith) (omega arith)
+              (λ j h. ⊎-elim
+              (λ (m : j < n). at-part v j m ∙ ap (λ (t : List ℕ). getD t j 0) (p .fronts b row e) ∙ getD-take n b j 0 m)
+              (λ (m : n ≤ j).
+              let s : n + (j - n) ≡ j = omega arith in
+              at-zero v j m ∙ sym (ap (λ (i : ℕ). getD b i 0) (sym s) ∙ sym (getD-drop n b (j - n) 0) ∙ g .2 (j - n) (omega arith)))
+              (cases-lt j n)),
+        ),
+      )
 
   -- before the byte that a refusal names, the bytes begin as some value's do
   pub first : (b : List ℕ) (k : ℕ) → Bytes16 b → unpadded n offence made b ≡ Err k → Begins-as (λ (v : V). padded n (parts v)) b k

@@ -73,5 +73,5 @@ timing-numbers v = record { up = v .up; down = v .down; wait = v .wait; link = l
 abbrev pub timing-reading : TimingNumbers → Timing
 timing-reading n =
     cond (leb (n .up) 36000 && leb (n .down) 36000 && leb (n .wait) 36000 && leb (n .link) 2)
-      (timing (n .up) (n .down) (n .wait) (link-of (n .link)))
-      (timing 0 0 0 ByHand)
+    (timing (n .up) (n .down) (n .wait) (link-of (n .link)))
+    (timing 0 0 0 ByHand)

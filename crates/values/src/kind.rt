@@ -11,6 +11,7 @@ ghost use Rattle.values.specs.Packing.{Bytes16, Begins-as};
 // stores values is proved once for all kinds.
 pub trait Kind {
     type Value: Copy;
+
     type Change: Copy;
     // The plain numbers of a value, as a host keeps them in memory.
     type Numbers: Copy;

@@ -1,18 +1,29 @@
 // Levels as a kind: kind 1, packed as two bytes and 14 zeros.
 ghost use mathlib.Core.Path.{_≡_};
 ghost use Rattle.values.specs.Levels.{level, level-applied, level-packed, level-unpacked, level-reading};
-use crate::kind::Kind;
-use crate::packing::first_nonzero;
 use super::Level;
 use super::LevelChange;
+use crate::kind::Kind;
+use crate::packing::first_nonzero;
 
 // The kind of levels.
 #[derive(Clone, Copy)]
 pub struct Levels;
 
+// The level n, or the highest where n is above it.
+fn capped(n: u32) -> Level
+    ensures { λ r. ⌜ r ≡ level n ⌝ }
+{
+    Level {
+        value: n.min(65_535) as u16,
+    }
+}
+
 pub impl Kind for Levels as LevelKind {
     type Value = Level;
+
     type Change = LevelChange;
+
     type Numbers = u16;
 
     const NUMBER: u8 = 1;
@@ -36,14 +47,14 @@ pub impl Kind for Levels as LevelKind {
     }
 
     fn home() -> Level {
-        Level { value: 0 }
+        capped(0)
     }
 
     fn apply(v: Level, c: LevelChange) -> Level {
         match c {
-            LevelChange::Set(n) => Level { value: n },
-            LevelChange::Up(n) => Level { value: v.value.saturating_add(n) },
-            LevelChange::Down(n) => Level { value: v.value.saturating_sub(n) },
+            LevelChange::Set(n) => capped(u32::from(n)),
+            LevelChange::Up(n) => capped(u32::from(v.value) + u32::from(n)),
+            LevelChange::Down(n) => capped(u32::from(v.value.saturating_sub(n))),
         }
     }
 
@@ -55,7 +66,7 @@ pub impl Kind for Levels as LevelKind {
     fn unpack(b: [u8; 16]) -> Result<Level, u8> {
         match first_nonzero(b, 2) {
             Some(k) => Err(k),
-            None => Ok(Level { value: u16::from_le_bytes([b[0], b[1]]) }),
+            None => Ok(capped(u32::from(u16::from_le_bytes([b[0], b[1]])))),
         }
     }
 
@@ -64,6 +75,6 @@ pub impl Kind for Levels as LevelKind {
     }
 
     fn of_numbers(n: u16) -> Level {
-        Level { value: n }
+        capped(u32::from(n))
     }
 }

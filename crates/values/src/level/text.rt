@@ -1,8 +1,8 @@
 // A level as text: its number.
 ghost use Rattle.std.specs.declared.option.Option.the-variants.{Some};
 ghost use Rattle.values.specs.Texts.{level-text};
-use std::fmt;
 use super::Level;
+use std::fmt;
 
 pub impl fmt::Display for Level as LevelDisplay {
     ghost shown = { λ v. Some (level-text v) };

@@ -3,12 +3,12 @@ ghost use mathlib.Core.Path.{_≡_};
 ghost use Prim.Native.Nat.{_<_, _+_};
 ghost use Rattle.values.specs.Packing.{number-at};
 ghost use Rattle.values.specs.Timings.{timing, timing-applied, timing-packed, timing-unpacked, timing-offence, link-of, link-number, timing-numbers, timing-reading};
-use crate::kind::Kind;
-use crate::packing::first_nonzero;
 use super::Link;
 use super::Timing;
 use super::TimingChange;
 use super::TimingNumbers;
+use crate::kind::Kind;
+use crate::packing::first_nonzero;
 
 // The kind of cue timings.
 #[derive(Clone, Copy)]
@@ -34,6 +34,18 @@ pub(crate) fn link_number(l: Link) -> u8
         Link::ByHand => 0,
         Link::AfterPrevious => 1,
         Link::WithPrevious => 2,
+    }
+}
+
+// The timing of three times and a link; a time above an hour becomes an hour.
+fn capped(up: u16, down: u16, wait: u16, link: Link) -> Timing
+    ensures { λ r. ⌜ r ≡ timing up down wait link ⌝ }
+{
+    Timing {
+        up: up.min(LONGEST),
+        down: down.min(LONGEST),
+        wait: wait.min(LONGEST),
+        link,
     }
 }
 
@@ -63,7 +75,9 @@ fn offence(b: [u8; 16]) -> Option<u8>
 
 pub impl Kind for Timings as TimingKind {
     type Value = Timing;
+
     type Change = TimingChange;
+
     type Numbers = TimingNumbers;
 
     const NUMBER: u8 = 2;
@@ -87,18 +101,20 @@ pub impl Kind for Timings as TimingKind {
     }
 
     fn home() -> Timing {
-        Timing { up: 0, down: 0, wait: 0, link: Link::ByHand }
+        capped(0, 0, 0, Link::ByHand)
     }
 
     fn apply(v: Timing, c: TimingChange) -> Timing {
         match c {
-            TimingChange::FadeUp(n) => Timing { up: n.min(LONGEST), down: v.down, wait: v.wait, link: v.link },
-            TimingChange::FadeDown(n) => Timing { up: v.up, down: n.min(LONGEST), wait: v.wait, link: v.link },
-            TimingChange::Wait(n) => Timing { up: v.up, down: v.down, wait: n.min(LONGEST), link: v.link },
-            TimingChange::Link(n) => {
-                let link = if n <= 2 { link_of(n) } else { v.link };
-                Timing { up: v.up, down: v.down, wait: v.wait, link }
-            }
+            TimingChange::FadeUp(n) => capped(n, v.down, v.wait, v.link),
+            TimingChange::FadeDown(n) => capped(v.up, n, v.wait, v.link),
+            TimingChange::Wait(n) => capped(v.up, v.down, n, v.link),
+            TimingChange::Link(n) => capped(
+                v.up,
+                v.down,
+                v.wait,
+                if n <= 2 { link_of(n) } else { v.link },
+            ),
         }
     }
 
@@ -106,7 +122,24 @@ pub impl Kind for Timings as TimingKind {
         let [up_low, up_high] = v.up.to_le_bytes();
         let [down_low, down_high] = v.down.to_le_bytes();
         let [wait_low, wait_high] = v.wait.to_le_bytes();
-        [up_low, up_high, down_low, down_high, wait_low, wait_high, link_number(v.link), 0, 0, 0, 0, 0, 0, 0, 0, 0]
+        [
+            up_low,
+            up_high,
+            down_low,
+            down_high,
+            wait_low,
+            wait_high,
+            link_number(v.link),
+            0,
+            0,
+            0,
+            0,
+            0,
+            0,
+            0,
+            0,
+            0,
+        ]
     }
 
     fn unpack(b: [u8; 16]) -> Result<Timing, u8> {
@@ -116,17 +149,27 @@ pub impl Kind for Timings as TimingKind {
         if let Some(k) = first_nonzero(b, 7) {
             return Err(k);
         }
-        Ok(Timing { up: number_at(b, 0), down: number_at(b, 2), wait: number_at(b, 4), link: link_of(b[6]) })
+        Ok(capped(
+            number_at(b, 0),
+            number_at(b, 2),
+            number_at(b, 4),
+            link_of(b[6]),
+        ))
     }
 
     fn to_numbers(v: Timing) -> TimingNumbers {
-        TimingNumbers { up: v.up, down: v.down, wait: v.wait, link: link_number(v.link) }
+        TimingNumbers {
+            up: v.up,
+            down: v.down,
+            wait: v.wait,
+            link: link_number(v.link),
+        }
     }
 
     fn of_numbers(n: TimingNumbers) -> Timing {
         if n.up > LONGEST || n.down > LONGEST || n.wait > LONGEST || n.link > 2 {
             return Self::home();
         }
-        Timing { up: n.up, down: n.down, wait: n.wait, link: link_of(n.link) }
+        capped(n.up, n.down, n.wait, link_of(n.link))
     }
 }

@@ -1,9 +1,9 @@
 // A timing as text: the three times and the link's number, UP/DOWN/WAIT/LINK.
 ghost use Rattle.std.specs.declared.option.Option.the-variants.{Some};
 ghost use Rattle.values.specs.Texts.{timing-text};
-use std::fmt;
 use super::Timing;
 use super::kind::link_number;
+use std::fmt;
 
 pub impl fmt::Display for Timing as TimingDisplay {
     ghost shown = { λ v. Some (timing-text v) };

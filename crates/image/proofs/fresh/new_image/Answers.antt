@@ -34,7 +34,7 @@ returns g c =
     let unpacked = g .K·Kind .unpacked in let kind = g .K·Kind .code in
     let row = c .pack .ensures ∙ ap (g .K·Kind .packed) (c .home .ensures) in
     let made : Filled kind (g .K·Kind .packed (g .K·Kind .home)) (c .new-blocks .last .image) =
-      filled-as kind _ (c .new-blocks .last .image) (c .code .ensures) row (c .new-blocks .ensures) in
+    filled-as kind _ (c .new-blocks .last .image) (c .code .ensures) row (c .new-blocks .ensures) in
     record {
       answer = answered _ _ yes;
       refused = λ no. absurd (both-ways _ no (sym yes));

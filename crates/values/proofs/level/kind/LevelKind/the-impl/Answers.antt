@@ -21,10 +21,10 @@ parts = record {
   sound = λ v. refl;
   again = λ v. same-level _ _ (let h : v .value < 65536 = v .ok in omega arith);
   fronts = λ b row e.
-    let x = row .1 0 in let y = row .1 1 in
-    let low = low-byte 65535 (getD b 0 0) (getD b 1 0) (omega arith) x y in
-    let high = high-byte 65535 (getD b 0 0) (getD b 1 0) (omega arith) x y in
-    let l = take-listed 2 b (omega arith) in cc;
+      let x = row .1 0 in let y = row .1 1 in
+      let low = low-byte 65535 (getD b 0 0) (getD b 1 0) (omega arith) x y in
+      let high = high-byte 65535 (getD b 0 0) (getD b 1 0) (omega arith) x y in
+      let l = take-listed 2 b (omega arith) in cc;
   begins = λ b k row e. let z : _≡_ {A = ℕ} 0 1 = cc in absurd (omega arith);
 }
 

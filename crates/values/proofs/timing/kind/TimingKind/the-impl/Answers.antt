@@ -74,14 +74,14 @@ begins-at b k row e =
     let wait = λ (h : leb (number-at b 4) 36000 ≡ true). time-bytes b 4 row (leb-true _ _ h) in
     ⊎-elim (λ (h : k ≡ 0). begins-by b k 0 h (omega arith) refl)
     (⊎-elim (λ (h : (k ≡ 2) × (leb (number-at b 0) 36000 ≡ true)).
-      let l = take-listed 2 b (omega arith) in
-      begins-by b k 2 (h .0) (omega arith) (cc (up (h .1) .0, up (h .1) .1)))
+    let l = take-listed 2 b (omega arith) in
+    begins-by b k 2 (h .0) (omega arith) (cc (up (h .1) .0, up (h .1) .1)))
     (⊎-elim (λ (h : (k ≡ 4) × (leb (number-at b 0) 36000 ≡ true) × (leb (number-at b 2) 36000 ≡ true)).
-      let l = take-listed 4 b (omega arith) in
-      begins-by b k 4 (h .0) (omega arith) (cc (up (h .1) .0, up (h .1) .1, down (h .2) .0, down (h .2) .1)))
+    let l = take-listed 4 b (omega arith) in
+    begins-by b k 4 (h .0) (omega arith) (cc (up (h .1) .0, up (h .1) .1, down (h .2) .0, down (h .2) .1)))
     (λ (h : (k ≡ 6) × (leb (number-at b 0) 36000 ≡ true) × (leb (number-at b 2) 36000 ≡ true) × (leb (number-at b 4) 36000 ≡ true)).
-      let l = take-listed 6 b (omega arith) in
-      begins-by b k 6 (h .0) (omega arith) (cc (up (h .1) .0, up (h .1) .1, down (h .2) .0, down (h .2) .1, wait (h .3) .0, wait (h .3) .1)))))
+    let l = take-listed 6 b (omega arith) in
+    begins-by b k 6 (h .0) (omega arith) (cc (up (h .1) .0, up (h .1) .1, down (h .2) .0, down (h .2) .1, wait (h .3) .0, wait (h .3) .1)))))
     (which _ _ _ _ k e)
 
 parts : Parts 7 timing-parts timing-offence timing-made

@@ -1,0 +1,2 @@
+-- Lemmas for the benchmark's entries.
+mod Copied

@@ -1,0 +1,2 @@
+-- Definitions for the contracts of the benchmark's entries.
+pub mod Rows

@@ -1,6 +1,0 @@
-use borrow.Author.Needs.{needs}
-use Rattle.values.proofs.Equality.{same-timing}
-use Rattle.values.proofs.timing.kind.TimingKind.apply.Needs as need
-
-pub returns : need.returns
-returns c = same-timing _ _ (search needs) (search needs) (search needs) (search needs)
