@@ -1,0 +1,15 @@
+pub mod Hands
+pub mod StandsBefore
+pub mod Invariants
+pub mod Wounding
+pub mod SerialOrder
+pub mod Promotion
+pub mod Admission
+pub mod Consistency
+pub mod PlainCalls
+pub mod FreeingCalls
+pub mod Endings
+pub mod Ordered
+pub mod Live
+pub mod Theorem
+pub mod EmptyEngines

@@ -1,0 +1,5 @@
+pub mod Searches
+pub mod Stations
+pub mod Widening
+pub mod Naming
+pub mod Cases
