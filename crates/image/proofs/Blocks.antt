@@ -4,25 +4,13 @@ use mathlib.Core.List.{List, [], _∷_}
 use mathlib.Core.Logic.{_⊎_, inl, inr, ⊎-elim}
 use Prim.Native.Nat.{ℕ, zero, suc, _+_, _*_, _<_, _≤_}
 use native.Mathlib.Omega.{arith}
-use native.Mathlib.Numerals.{add-one}
 use lib.Bits.{bitXor}
 use lib.ListN.{length, getD, set, length-set}
 use lib.Seq.{paste}
 use Rattle.std.proofs.shelf.Tests.{cases-lt}
 use Rattle.std.proofs.shelf.Lists.{getD-set-same, getD-set-other, set-set}
-use Rattle.image.specs.Blocks.{part, xor-of, xors, checks, mixed, checked, closed, row-of, with-row}
+use Rattle.image.specs.Blocks.{part, xor-of, xors, checks, checked, closed, row-of, with-row}
 use Rattle.image.proofs.Parts.{part-written, part-apart, part-set-before, paste-before, length-paste, paste-set, paste-same}
-
--- one turn of the check's loop
-pub xors-more : (b c : List ℕ) (m : ℕ) → c ≡ xors b m → mixed c b (8 * m) ≡ xors b (m + 1)
-xors-more b c m e =
-    ap (λ (t : List ℕ). mixed t b (8 * m)) e
-    ∙ (let z : 8 * m + 0 ≡ 8 * m = omega arith in let g = ap (λ (i : ℕ). getD b i 0) z in cc)
-    ∙ ap (xors b) (sym (add-one m))
-
-pub checks-are : (b c : List ℕ) (m : ℕ) → m ≡ 63 → c ≡ xors b m → c ≡ checks b
-unfolding checks
-checks-are b c m e h = h ∙ ap (xors b) e
 
 pub length-checks : (b : List ℕ) → length (checks b) ≡ 8
 unfolding checks

@@ -4,3 +4,4 @@ pub mod RowsWritten
 pub mod FirstFault
 pub mod Sound
 pub mod NewImage
+pub mod Lanes

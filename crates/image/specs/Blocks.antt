@@ -2,7 +2,8 @@
 use mathlib.Core.List.{List, [], _∷_}
 use Prim.Native.Nat.{ℕ, zero, suc, _+_, _*_}
 use lib.Bits.{bitXor}
-use lib.ListN.{getD, set, take, drop}
+use lib.Lanes.{zip2}
+use lib.ListN.{getD, set, take, drop, replicate}
 use lib.Seq.{paste}
 
 -- the n bytes from place `at` on
@@ -21,14 +22,6 @@ xors b m = xor-of b 0 m ∷ xor-of b 1 m ∷ xor-of b 2 m ∷ xor-of b 3 m ∷ x
 unfoldable pub checks : List ℕ → List ℕ
 checks b = xors b 63
 
--- eight bytes, each with one of the bytes from place `at` on mixed in
-abbrev pub mixed : List ℕ → List ℕ → ℕ → List ℕ
-mixed c b at =
-    bitXor (getD c 0 0) (getD b at 0) ∷ bitXor (getD c 1 0) (getD b (at + 1) 0)
-    ∷ bitXor (getD c 2 0) (getD b (at + 2) 0) ∷ bitXor (getD c 3 0) (getD b (at + 3) 0)
-    ∷ bitXor (getD c 4 0) (getD b (at + 4) 0) ∷ bitXor (getD c 5 0) (getD b (at + 5) 0)
-    ∷ bitXor (getD c 6 0) (getD b (at + 6) 0) ∷ bitXor (getD c 7 0) (getD b (at + 7) 0) ∷ []
-
 -- the block with its check written
 abbrev pub checked : List ℕ → List ℕ
 checked b = paste b 504 (checks b) 8
@@ -40,6 +33,11 @@ closed b = checked (set b 3 0)
 -- the 16 bytes of row k
 abbrev pub row-of : List ℕ → ℕ → List ℕ
 row-of b k = part b (8 + 16 * k) 16
+
+-- the exclusive or of the first m rows, byte by byte
+abbrev pub row-xors : List ℕ → ℕ → List ℕ
+row-xors b zero = replicate 16 0
+row-xors b (suc m) = zip2 bitXor (row-xors b m) (row-of b m)
 
 -- the block with other bytes in row k
 abbrev pub with-row : List ℕ → ℕ → List ℕ → List ℕ

@@ -1,38 +1,32 @@
 // The check of one block: eight bytes, each the exclusive or of 63 others.
 ghost use mathlib.Core.Path.{_≡_};
-ghost use mathlib.Core.List.{List, [], _∷_};
-ghost use Prim.Native.Nat.{_+_, _*_, _<_, _≤_};
-ghost use lib.Bits.{bitXor};
-ghost use lib.ListN.{length, getD, set};
-ghost use Rattle.image.specs.Blocks.{checks, closed, mixed};
+ghost use lib.ListN.{length};
+ghost use Rattle.image.specs.Blocks.{checks, closed, row-xors};
+use std::simd::prelude::*;
 
-// The check so far, with the eight bytes from `at` on mixed in.
-fn mix(check: [u8; 8], block: &[u8], at: usize) -> [u8; 8]
-    requires { ⌜ at + 8 ≤ length (now block) ⌝ }
-    ensures { λ r. ⌜ r ≡ mixed check (now (block .entry)) at ⌝ }
+// The rows mixed into one: all 16 bytes of a row at once.
+fn rows_mixed(block: &[u8]) -> [u8; 16]
+    requires { ⌜ length (now block) ≡ 512 ⌝ }
+    ensures { λ r. ⌜ r ≡ row-xors (now (block .entry)) 31 ⌝ }
 {
-    [
-        check[0] ^ block[at],
-        check[1] ^ block[at + 1],
-        check[2] ^ block[at + 2],
-        check[3] ^ block[at + 3],
-        check[4] ^ block[at + 4],
-        check[5] ^ block[at + 5],
-        check[6] ^ block[at + 6],
-        check[7] ^ block[at + 7],
-    ]
+    let mut mixed = u8x16::splat(0);
+    for k in 0..31usize {
+        let at = 8 + 16 * k;
+        mixed = mixed ^ u8x16::from_slice(&block[at..at + 16]);
+    }
+    mixed.to_array()
 }
 
+// The header and the two halves of the rows, mixed.
 pub(crate) fn check_of(block: &[u8]) -> [u8; 8]
     requires { ⌜ length (now block) ≡ 512 ⌝ }
     ensures { λ r. ⌜ r ≡ checks (now (block .entry)) ⌝ }
 {
-    let mut check = [0; 8];
-    for m in 0..63usize {
-        let more = mix(check, block, 8 * m);
-        check = more;
-    }
-    check
+    let rows = rows_mixed(block);
+    let check = u8x8::from_slice(&block[0..8])
+        ^ u8x8::from_slice(&rows[0..8])
+        ^ u8x8::from_slice(&rows[8..16]);
+    check.to_array()
 }
 
 // The mark becomes 0 and the check fits.

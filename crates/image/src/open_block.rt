@@ -6,6 +6,7 @@ ghost use denote.Ref.{name};
 ghost use lib.ListN.{length, set};
 ghost use Rattle.image.specs.Blocks.{closed, row-of, with-row};
 use crate::block::close;
+use std::simd::prelude::*;
 
 // The block's mark is 1 as long as the guard lives.
 pub(crate) struct OpenBlock<'a> {
@@ -55,7 +56,9 @@ fn row_is(block: &[u8], k: usize, bytes: &[u8; 16]) -> bool
     ensures { λ r. ⌜ (r ≡ true → row-of (now (block .entry)) k ≡ now (bytes .entry)) ⌝ }
 {
     let at = 8 + 16 * k;
-    &block[at..at + 16] == &bytes[..]
+    u8x16::from_slice(&block[at..at + 16])
+        .simd_eq(u8x16::from_slice(&bytes[0..16]))
+        .all()
 }
 
 // Writes row k of a block. The write ends early where the row already holds these bytes; the drop of the guard closes

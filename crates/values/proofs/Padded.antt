@@ -84,7 +84,8 @@ pub record Parts {V : Type 0} (n : ℕ) (parts : V → List ℕ) (offence : List
   -- before a part that offends, the bytes are those of some value
   pub begins : (b : List ℕ) (k : ℕ) → Bytes16 b → offence b ≡ Some k → (k ≤ n) × (k < 16) × ((v : V) × (take k (parts v) ≡ take k b))
 
-getD-zeros : (n k : ℕ) → getD {A = ℕ} (replicate n 0) k 0 ≡ 0
+-- a list of zeros has 0 at every place
+pub getD-zeros : (n k : ℕ) → getD {A = ℕ} (replicate n 0) k 0 ≡ 0
 getD-zeros zero k = refl
 getD-zeros (suc n) zero = refl
 getD-zeros (suc n) (suc k) = getD-zeros n k
