@@ -4,6 +4,7 @@ set -eu
 root=$(cd "$(dirname "$0")" && pwd)
 log="$root/target/plot.log"
 mkdir -p "$root/target"
+[ -x "$root/target/bin/plot" ] || echo "plot: proving and building the program first; this takes a few minutes, once" >&2
 if ! (cd "$root" && rt check plot) >"$log" 2>&1; then
     echo "plot: the program could not be proved and built; target/plot.log says why" >&2
     exit 1
