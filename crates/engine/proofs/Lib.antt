@@ -1,0 +1,4 @@
+pub mod RowsRead
+pub mod Steps
+pub mod Starts
+pub mod Holders

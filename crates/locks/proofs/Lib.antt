@@ -1,0 +1,9 @@
+pub mod Turns
+pub mod Hands
+pub mod Kept
+pub mod Bonds
+pub mod Widening
+pub mod Before
+pub mod Refusals
+pub mod Drafts
+pub mod ChangedViews

@@ -1,0 +1,8 @@
+use mathlib.Core.Path.{sym, ap}
+use native.Mathlib.Omega.{arith}
+use Rattle.std.proofs.shelf.Lists.{getD-past}
+use Rattle.locks.specs.View.{no-station, active}
+use Rattle.locks.proofs.table.LockTable.has_attempt.Needs as need
+
+pub returns-else-i-lt16 : need.returns-else-i-lt16
+returns-else-i-lt16 c = ap active (sym (getD-past (c .args .self .now .stations) (c .args .i) no-station (omega arith)))

@@ -1,0 +1,9 @@
+use mathlib.Core.Path.{sym, ap}
+use native.Mathlib.Omega.{arith}
+use Rattle.std.proofs.shelf.Lists.{getD-past}
+use Rattle.locks.specs.View.{no-station, stamp-of}
+use Rattle.locks.specs.declared.station.Station.{Station}
+use Rattle.locks.proofs.table.LockTable.stamp.Needs as need
+
+pub returns-else-i-lt16 : need.returns-else-i-lt16
+returns-else-i-lt16 c = ap (λ (s : Station). stamp-of (s .phase)) (sym (getD-past (c .args .self .now .stations) (c .args .i) no-station (omega arith)))
