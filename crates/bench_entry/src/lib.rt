@@ -1,5 +1,8 @@
 // What the benchmark and the differential test call: the rows of an image of levels, written and read one by one through the block
 // shelf, lists of calls played on an engine, and what retiring buys, in rounds.
+
+#![tactic(auto)]
+
 mod coded;
 mod contended;
 mod rounds;

@@ -1,4 +1,7 @@
 // The engine: the calls of the stations on one show, over any kind of value and any two shelves.
+
+#![tactic(auto)]
+
 mod asking;
 mod calling;
 pub mod core;

@@ -1,4 +1,7 @@
 // The show image: its blocks, the shelf over them, the check of a whole image, and new images.
+
+#![tactic(auto)]
+
 mod block;
 pub mod check;
 pub mod fault;

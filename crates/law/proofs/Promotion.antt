@@ -1,6 +1,6 @@
 -- Promoting: what it keeps, whom it grants, and that it leaves every wait blocked.
 use Rattle.std.proofs.Common.{◌≡◌, ℕ, ◌<◌, ◌≤◌, true, false, ◌&&◌, ◌⊎◌, List, Some, None, Option, sym, refl, ap, ◌∙◌, inl, inr, le_of_eq}
-use Rattle.std.proofs.lemmas.Bool.{eqb-true, cases_eq, or_cases, or_parts, and_parts, ltb-true, ltb-false, not-true, not_false}
+use Rattle.std.proofs.lemmas.Bool.{eqb-true, cases_eq, or_cases, or_parts, and_parts, ltb-true, ltb-false, not-true, not-false}
 use Rattle.rules.specs.declared.Mode.{Mode}
 use Rattle.rules.specs.Searches.{any_below, first_below, count_below}
 use Rattle.rules.specs.Tables.{Hold, Phase, idle, running, wounded, waiting, Station, Stations, conflict, hold_mode, owned, is_waiting, works, waits_for, hold_on, owned_conflicts, older, put}
@@ -90,7 +90,7 @@ blocked_after_settling {V} {t} v stuck i r m wait = (
 )
   where
     some : any_below 16 (blocks t i r m) ≡ true
-    some = not_false (any_below 16 (blocks t i r m))
+    some = not-false (any_below 16 (blocks t i r m))
         (sym (ap (ready t i) wait) ∙ stuck i (v.in_range i (waiter_not_idle v i r m wait)))
 
     s : (j : ℕ) × (j < 16) × (blocks t i r m j ≡ true)

@@ -2,6 +2,8 @@
 //!
 //! This crate has no running code. `specs/Law.antt` states the law; the functions here name the theorems.
 
+#![tactic(auto)]
+
 ghost use Rattle.law.specs.Runs.{Lawful, AlwaysOrderly};
 ghost use Rattle.law.specs.EmptyEngines.{EmptyEnginesRefused};
 

@@ -1,4 +1,7 @@
 // The lock table of the engine: sixteen stations, what each does and holds, and the questions and changes of the rules.
+
+#![tactic(auto)]
+
 mod admission;
 mod asking;
 mod changes;

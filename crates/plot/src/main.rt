@@ -1,4 +1,7 @@
 // The program: makes a show image, writes records into it, damages it and mends it, and says in words what it did.
+
+#![tactic(auto)]
+
 mod asked;
 mod saving;
 mod task;

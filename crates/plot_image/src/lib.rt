@@ -1,4 +1,7 @@
 // What the console's host program, which is written in C, asks of an image: the check by a kind number.
+
+#![tactic(auto)]
+
 ghost use Rattle.std.specs.Prelude.{◌≡◌, ◌<◌, Ok};
 ghost use Rattle.plot_image.specs.Host.{host_check, host_number, fault_block, fault_row, SoundOf};
 

@@ -1,7 +1,7 @@
 -- What a call that is not refused may rely on.
 use Rattle.std.proofs.Common.{◌≡◌, ℕ, ◌<◌, Bool, true, false, cond, not, List, [], ◌∷◌, length, is_some, Some, None, Option, refl, ap, arith}
 use Rattle.std.specs.List.{AllByRecursion as All}
-use Rattle.std.proofs.lemmas.Bool.{ltb-false, leb-false, not_false}
+use Rattle.std.proofs.lemmas.Bool.{ltb-false, leb-false, not-false}
 use Rattle.rules.specs.declared.Mode.{Mode}
 use Rattle.rules.specs.declared.Refusal.{Refusal}
 use Rattle.rules.specs.declared.Call.{Call}
@@ -68,7 +68,7 @@ module _ {V : Type 0} (C : Type 0) (named : ℕ) (t : Table V) (k : ℕ) where
   pub begin_admitted : first_refusal (refusals {C = C} named (Begin k) t) ≡ None → (k < 16) × ((t.stations k).phase ≡ idle)
   begin_admitted e =
       let f = all_tests_fail (refusals {C = C} named (Begin k) t) e in
-      (leb-false 16 k f.0, idle_if (t.stations k).phase (not_false (is_idle (t.stations k).phase) f.1.0))
+      (leb-false 16 k f.0, idle_if (t.stations k).phase (not-false (is_idle (t.stations k).phase) f.1.0))
 
   -- take: the station runs, the record is one of the show's, the station does not hold it, and has room for it
   pub take_admitted : (r : ℕ) (m : Mode) → first_refusal (refusals {C = C} named (Take k r m) t) ≡ None
@@ -88,7 +88,7 @@ module _ {V : Type 0} (C : Type 0) (named : ℕ) (t : Table V) (k : ℕ) where
       let f = all_tests_fail (refusals {C = C} named (Look k r) t) e in (
         running_if (t.stations k).phase f.1.0 f.1.1.0 f.1.1.1.0,
         owned_if (hold_on r (t.stations k).hand)
-            (not_false (owns (hold_on r (t.stations k).hand)) f.1.1.1.1.1.0),
+            (not-false (owns (hold_on r (t.stations k).hand)) f.1.1.1.1.1.0),
       )
 
   -- change: the station runs, owns the record, and has a draft of it
@@ -97,7 +97,7 @@ module _ {V : Type 0} (C : Type 0) (named : ℕ) (t : Table V) (k : ℕ) where
   change_admitted r c e =
       let f = all_tests_fail (refusals named (Change k r c) t) e in
       let own = owned_if (hold_on r (t.stations k).hand)
-      (not_false (owns (hold_on r (t.stations k).hand)) f.1.1.1.1.1.0) in (
+      (not-false (owns (hold_on r (t.stations k).hand)) f.1.1.1.1.1.0) in (
         running_if (t.stations k).phase f.1.0 f.1.1.0 f.1.1.1.0,
         (own.0, own.1, own.2, draft_if own.0 (rw own.1 at f.1.1.1.1.1.1.0)),
       )
@@ -123,7 +123,7 @@ module _ {V : Type 0} (C : Type 0) (named : ℕ) (t : Table V) (k : ℕ) where
   pub again_admitted : first_refusal (refusals {C = C} named (Again k) t) ≡ None → (t.stations k).phase ≡ wounded
   again_admitted e =
       wounded_if (t.stations k).phase
-      (not_false (is_wounded (t.stations k).phase) (all_tests_fail (refusals {C = C} named (Again k) t) e).1.0)
+      (not-false (is_wounded (t.stations k).phase) (all_tests_fail (refusals {C = C} named (Again k) t) e).1.0)
 
 -- a refusal is no value
 pub refused_not_value : {V : Type 0} (why : Refusal) (v : V) → Refused why ≡ Value v → ⊥

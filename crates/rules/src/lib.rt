@@ -3,6 +3,8 @@
 //! This crate has no running code but `Refusal::number`. Its types are those of the engine's calls and answers; its
 //! `specs/` say what each call answers and leaves, and the functions at the end name the theorems that are proved of it.
 
+#![tactic(auto)]
+
 ghost use Rattle.std.specs.Prelude.{◌≡◌};
 ghost use Rattle.rules.specs.Calls.{refusal_number};
 ghost use Rattle.rules.specs.Cases.{CasesHold, MisreadingsHeldOff};

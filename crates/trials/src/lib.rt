@@ -1,4 +1,7 @@
 // Tests of the values, the shelves, the image and the engine: boundary cases, and one damaged image for each refusal.
+
+#![tactic(auto)]
+
 #[cfg(test)]
 mod damage;
 #[cfg(test)]

@@ -1,4 +1,7 @@
 // The kinds of value that a show keeps: what each kind has, and the 16 bytes of its values.
+
+#![tactic(auto)]
+
 pub mod kind;
 pub mod level;
 pub mod packing;

@@ -5,20 +5,20 @@ use Rattle.image.proofs.RowsWritten.{rows_long}
 use Rattle.bench_entry.specs.Rows.{levels_of}
 use Rattle.bench_entry.proofs.Copied.{got_none, got_row, past_rows, got_all}
 use Rattle.bench_entry.proofs.bench_read_levels.Goals as goal
-use Rattle.bench_entry.proofs.bench_read_levels.Goals.{in-Some, in-default}
+use Rattle.bench_entry.proofs.bench_read_levels.Goals.{in-Some, in_default}
 
 pub loop-n-init : goal.loop-n-init
 loop-n-init c = got_none (levels_of c.args.image.now) c.args.numbers.now
 
-pub overflow-add-got : goal.overflow-add-got
-overflow-add-got c = let k = c.loop-n.invariant.count in omega arith
+pub overflow_add-got : goal.overflow_add-got
+overflow_add-got c = let k = c.loop-n.invariant.count in omega arith
 
 pub loop-n-preserved : goal.loop-n-preserved
 loop-n-preserved c =
     let rows = levels_of c.args.image.now in let ns = c.args.numbers.now in let nums = c.loop-n.numbers in
     elim c.match-read.branch [
       | in-Some w ↦ got_row rows ns nums c.loop-n.n c.loop-n.got c.loop-n.invariant w.in-Some.level _ _ (search rules) (search rules) (search rules)
-      | in-default w ↦ past_rows rows ns nums c.loop-n.n c.loop-n.got c.loop-n.invariant _ _ (search rules) (search rules) (search rules)
+      | in_default w ↦ past_rows rows ns nums c.loop-n.n c.loop-n.got c.loop-n.invariant _ _ (search rules) (search rules) (search rules)
     ]
 
 pub returns : goal.returns

@@ -5,7 +5,7 @@ use Rattle.image.proofs.Sound.{blocks_image}
 use Rattle.image.proofs.fresh.new_blocks.Goals as goal
 
 pub loop-q-preserved : goal.loop-q-preserved
-loop-q-preserved c = block_made c.args.kind c.args.row.now c.loop-q.image c.loop-q.q _ _ (search rules) (omega arith) (search rules) c.loop-q.invariant c.new-block.ensures
+loop-q-preserved c = block_made c.args.kind c.args.row.now c.loop-q.image c.loop-q.q _ _ (search rules) (omega arith) (search rules) c.loop-q.invariant c.new_block.ensures
 
 pub returns : goal.returns
 returns c =

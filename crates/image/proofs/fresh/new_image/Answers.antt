@@ -13,9 +13,9 @@ answered b c e = ap (λ (t : Bool). cond {A = Verdict} t (Ok tt) (Err Length)) e
 filled_as : {k : ℕ} (kind : ℕ) {r : List ℕ} (row image : List ℕ) → k ≡ kind → r ≡ row → Filled k r image → Filled kind row image
 filled_as {k} kind row image e f h = subst (λ (n : ℕ). Filled n row image) e (subst (λ (t : List ℕ). Filled k t image) f h)
 
-pub returns-then-not-is-whole : goal.returns-then-not-is-whole
-returns-then-not-is-whole g c =
-    let no = c.if-not-is-whole.ensures in
+pub returns-then-not-is_whole : goal.returns-then-not-is_whole
+returns-then-not-is_whole g c =
+    let no = c.if-not-is_whole.ensures in
     record {
       answer = answered _ _ no;
       refused = λ _. refl;
@@ -25,11 +25,11 @@ returns-then-not-is-whole g c =
 
 pub returns : goal.returns
 returns g c =
-    let yes = c.if-not-is-whole.ensures in
+    let yes = c.if-not-is_whole.ensures in
     let unpacked = g.K.Kind.unpacked in let kind = g.K.Kind.code in
     let row = c.pack.ensures ∙ ap g.K.Kind.packed c.home.ensures in
-    let made : Filled kind (g.K.Kind.packed g.K.Kind.home) c.new-blocks.new.image =
-    filled_as kind _ c.new-blocks.new.image c.code.ensures row c.new-blocks.ensures in
+    let made : Filled kind (g.K.Kind.packed g.K.Kind.home) c.new_blocks.new.image =
+    filled_as kind _ c.new_blocks.new.image c.code.ensures row c.new_blocks.ensures in
     record {
       answer = answered _ _ yes;
       refused = λ no. absurd (both_ways _ no (sym yes));

@@ -5,6 +5,6 @@ use Rattle.image.proofs.rows.get.Goals as goal
 
 pub returns : goal.returns
 returns c =
-    c.copy-from-slice.ensures.after
+    c.copy_from_slice.ensures.after
     ∙ part_as c.args.image.now (512 * (c.args.n / 31) + (8 + 16 * (c.args.n % 31))) 16 _ (omega arith)
     ∙ row_read c.args.image.now c.args.n c.requires

@@ -8,13 +8,13 @@ use Rattle.engine.proofs.Steps.{kept_same, true_not_false, refused_step, accepte
 use Rattle.engine.proofs.Holders.{change_refusal, changed_answer, changed_table}
 use Rattle.engine.proofs.core.Engine.change.Goals as goal
 
-pub returns-in-err-s : goal.returns-in-err-s
-returns-in-err-s g c =
+pub returns-in_err-s : goal.returns-in_err-s
+returns-in_err-s g c =
     let home = g.K.Kind.home in let show = g.S.Shelf.rows c.args.self.now.show in let drafts = g.D.Shelf.rows c.args.self.now.drafts in
-    let p = err_from_is_err_and c.from-residual.result c.from-residual.ensures.1 in
+    let p = err_from_is_err_and c.from_residual.result c.from_residual.ensures.1 in
     record {
-      ruled = refused_step g.K.Kind.applied (Change c.args.station c.args.at c.args.by) (view home g.S.Shelf.rows g.D.Shelf.rows c.args.self.now) Value c.from-residual.result p.0 p.1
-          (change_refusal _ (drafts_of home drafts) (show_of home show) c.args.self.now.locks c.args.station c.args.at c.records-records.result (records_of (length show) (length drafts)) _ c.args.by c.records-records.ensures (sym (ap refusal_in c.in-err-s.was) ∙ c.admit-change.ensures.refusal) ∙ ap Some (sym p.2));
+      ruled = refused_step g.K.Kind.applied (Change c.args.station c.args.at c.args.by) (view home g.S.Shelf.rows g.D.Shelf.rows c.args.self.now) Value c.from_residual.result p.0 p.1
+          (change_refusal _ (drafts_of home drafts) (show_of home show) c.args.self.now.locks c.args.station c.args.at c.records-records.result (records_of (length show) (length drafts)) _ c.args.by c.records-records.ensures (sym (ap refusal_in c.in_err-s.was) ∙ c.admit_change.ensures.refusal) ∙ ap Some (sym p.2));
       refused = λ _. refl;
       show = refl;
       drafts = kept_same _ _ _ c.args.self.now.drafts;
@@ -25,15 +25,15 @@ returns g c =
     let home = g.K.Kind.home in let show = g.S.Shelf.rows c.args.self.now.show in let drafts = g.D.Shelf.rows c.args.self.now.drafts in
     let rows = g.D.Shelf.rows c.write.new.self in
     let t = c.args.self.now.locks in let v = view home g.S.Shelf.rows g.D.Shelf.rows c.args.self.now in
-    let h = c.in-ok-s.ensures.place in
-    let none = sym c.in-ok-s.ensures.refusal in
+    let h = c.in_ok-s.ensures.place in
+    let none = sym c.in_ok-s.ensures.refusal in
     let made = c.apply-new.ensures ∙ ap (λ x. g.K.Kind.applied x c.args.by) c.draft_at.ensures in
-    let small : c.in-ok-s.k < 16 = search rules in
+    let small : c.in_ok-s.k < 16 = search rules in
     record {
       ruled = accepted_step g.K.Kind.applied (Change c.args.station c.args.at c.args.by) v _ _
           (change_refusal _ (drafts_of home drafts) (show_of home show) t c.args.station c.args.at c.records-records.result (records_of (length show) (length drafts)) _ c.args.by c.records-records.ensures (sym none))
-          (ap Value (changed_answer g.K.Kind.applied home show drafts rows t c.args.by c.args.station c.args.at c.in-ok-s.s c.in-ok-s.k c.records-records.result c.apply-new.result h.station h.place small none c.records-records.ensures made c.write.ensures.after))
-          (changed_table g.K.Kind.applied home show drafts rows t c.args.by c.args.station c.args.at c.in-ok-s.s c.in-ok-s.k c.records-records.result c.apply-new.result h.station h.place small none c.records-records.ensures made c.write.ensures.after);
+          (ap Value (changed_answer g.K.Kind.applied home show drafts rows t c.args.by c.args.station c.args.at c.in_ok-s.s c.in_ok-s.k c.records-records.result c.apply-new.result h.station h.place small none c.records-records.ensures made c.write.ensures.after))
+          (changed_table g.K.Kind.applied home show drafts rows t c.args.by c.args.station c.args.at c.in_ok-s.s c.in_ok-s.k c.records-records.result c.apply-new.result h.station h.place small none c.records-records.ensures made c.write.ensures.after);
       refused = λ e. true_not_false e;
       show = refl;
       drafts = record {

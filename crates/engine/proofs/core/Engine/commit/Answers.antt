@@ -13,23 +13,23 @@ use Rattle.engine.specs.Answers.{Kept}
 use Rattle.engine.proofs.Commits.{commit_below, commit_refusal, may_name, commit_accepted, committed_number, committed_table}
 use Rattle.engine.proofs.core.Engine.commit.Goals as goal
 
-pub write-drafts-requires : goal.write-drafts-requires
-write-drafts-requires g c =
-    let named = c.admit-commit.ensures in
-    let ok = admission_of c.args.station c.in-ok-s.s _ (sym c.in-ok-s.was ∙ named.2) in
+pub write_drafts-requires : goal.write_drafts-requires
+write_drafts-requires g c =
+    let named = c.admit_commit.ensures in
+    let ok = admission_of c.args.station c.in_ok-s.s _ (sym c.in_ok-s.was ∙ named.2) in
     subst (λ (j : ℕ). j < 16) (sym ok.1) (commit_below c.args.self.now.locks c.args.station named.0 ok.0)
 
-pub returns-in-err-s : goal.returns-in-err-s
-returns-in-err-s g c =
+pub returns-in_err-s : goal.returns-in_err-s
+returns-in_err-s g c =
     let home = g.K.Kind.home in let show = g.S.Shelf.rows c.args.self.now.show in let drafts = g.D.Shelf.rows c.args.self.now.drafts in
     let t = c.args.self.now.locks in let s = c.args.station in
-    let p = err_from_is_err_and c.from-residual.result c.from-residual.ensures.1 in let named = c.admit-commit.ensures in
+    let p = err_from_is_err_and c.from_residual.result c.from_residual.ensures.1 in let named = c.admit_commit.ensures in
     record {
       ruled = λ _. (
         named.0,
         may_name (drafts_of home drafts) t.stations s named.0 named.1,
-        refused_naming g.K.Kind.applied (Commit s) (view home g.S.Shelf.rows g.D.Shelf.rows c.args.self.now) named.0 Committed c.from-residual.result p.0 p.1
-            (commit_refusal g.row.K-Change.Denot (drafts_of home drafts) (show_of home show) t s (records_of (length show) (length drafts)) named.0 ∙ handed_on s _ _ p.0 _ p.2 c.in-err-s.was named.2),
+        refused_naming g.K.Kind.applied (Commit s) (view home g.S.Shelf.rows g.D.Shelf.rows c.args.self.now) named.0 Committed c.from_residual.result p.0 p.1
+            (commit_refusal g.row.K-Change.Denot (drafts_of home drafts) (show_of home show) t s (records_of (length show) (length drafts)) named.0 ∙ handed_on s _ _ p.0 _ p.2 c.in_err-s.was named.2),
       );
       refused = λ _. refl;
       show = kept_same _ _ _ c.args.self.now.show;
@@ -39,12 +39,12 @@ returns-in-err-s g c =
 pub returns : goal.returns
 returns g c =
     let home = g.K.Kind.home in let show = g.S.Shelf.rows c.args.self.now.show in let drafts = g.D.Shelf.rows c.args.self.now.drafts in
-    let apply = g.K.Kind.applied in let plotted = g.S.Shelf.rows c.write-drafts.new.self.show in let rows = g.D.Shelf.rows c.settle.new.self.drafts in
+    let apply = g.K.Kind.applied in let plotted = g.S.Shelf.rows c.write_drafts.new.self.show in let rows = g.D.Shelf.rows c.settle.new.self.drafts in
     let t = c.args.self.now.locks in let u = c.commit_number.new.self in let w = c.settle.new.self.locks in
-    let s = c.args.station in let i = c.in-ok-s.s in let number = c.commit_number.result in
-    let named = c.admit-commit.ensures in
-    let ok = admission_of s i _ (sym c.in-ok-s.was ∙ named.2) in
-    let writes = c.write-drafts.ensures.rows in let same-locks = c.write-drafts.ensures.locks in let same-drafts = c.write-drafts.ensures.drafts in
+    let s = c.args.station in let i = c.in_ok-s.s in let number = c.commit_number.result in
+    let named = c.admit_commit.ensures in
+    let ok = admission_of s i _ (sym c.in_ok-s.was ∙ named.2) in
+    let writes = c.write_drafts.ensures.rows in let same-locks = c.write_drafts.ensures.locks in let same-drafts = c.write_drafts.ensures.drafts in
     let frees = c.commit_number.ensures.stations ∙ ap (λ (l : LockTable). change freed i l.stations) same-locks in
     let counts = c.commit_number.ensures.commits ∙ ap (λ (l : LockTable). cond (active_at l.stations i) (l.commits + 1) l.commits) same-locks in
     let tells = c.commit_number.ensures.number in let rest = c.settle.ensures.rest in
@@ -63,6 +63,6 @@ returns g c =
             ∙ committed_table apply home show plotted drafts rows t u w s i number named.0 orderly ok.0 ok.1 writes frees counts tells settles long next commits),
       );
       refused = λ e. true_not_false e;
-      show = subst (λ x. Kept g.S.Shelf.rows g.S.Shelf.memory g.S.Shelf.sound c.args.self.now.show x) (sym rest.same_show) c.write-drafts.ensures.show;
+      show = subst (λ x. Kept g.S.Shelf.rows g.S.Shelf.memory g.S.Shelf.sound c.args.self.now.show x) (sym rest.same_show) c.write_drafts.ensures.show;
       drafts = subst (λ x. Kept g.D.Shelf.rows g.D.Shelf.memory g.D.Shelf.sound x c.settle.new.self.drafts) same-drafts rest.kept_drafts;
     }

@@ -13,12 +13,12 @@ use Rattle.engine.proofs.Steps.{refused_step, accepted_step, handed_on, admissio
 use Rattle.engine.proofs.GivesUp.{give_up_acts, give_up_wounded, give_up_at_work, orderly_served}
 use Rattle.engine.proofs.core.Engine.give_up.Goals as goal
 
-pub returns-in-err-s : goal.returns-in-err-s
-returns-in-err-s g c =
-    let p = err_from_is_err_and c.from-residual.result c.from-residual.ensures.1 in
+pub returns-in_err-s : goal.returns-in_err-s
+returns-in_err-s g c =
+    let p = err_from_is_err_and c.from_residual.result c.from_residual.ensures.1 in
     record {
-      ruled = λ _. refused_step g.K.Kind.applied (GiveUp c.args.station) (view g.K.Kind.home g.S.Shelf.rows g.D.Shelf.rows c.args.self.now) Number c.from-residual.result p.0 p.1
-          (handed_on c.args.station _ _ p.0 _ p.2 c.in-err-s.was c.admit-give-up.ensures);
+      ruled = λ _. refused_step g.K.Kind.applied (GiveUp c.args.station) (view g.K.Kind.home g.S.Shelf.rows g.D.Shelf.rows c.args.self.now) Number c.from_residual.result p.0 p.1
+          (handed_on c.args.station _ _ p.0 _ p.2 c.in_err-s.was c.admit_give_up.ensures);
       refused = λ _. refl;
       show = refl;
       drafts = kept_same _ _ _ c.args.self.now.drafts;
@@ -27,17 +27,17 @@ returns-in-err-s g c =
 pub withdraw-requires : goal.withdraw-requires
 withdraw-requires g c =
     let t = c.args.self.now.locks in let s = c.args.station in let before = view g.K.Kind.home g.S.Shelf.rows g.D.Shelf.rows c.args.self.now in
-    let ok = admission_of s c.in-ok-s.s _ (sym c.in-ok-s.was ∙ c.admit-give-up.ensures) in
+    let ok = admission_of s c.in_ok-s.s _ (sym c.in_ok-s.was ∙ c.admit_give_up.ensures) in
     let at = give_up_acts g.row.K-Change.Denot before s ok.0 in
     (subst (λ (j : ℕ). j < 16) (sym ok.1) at.0, ap (active_at t.stations) ok.1 ∙ at.1)
 
-pub returns-then-is-wounded : goal.returns-then-is-wounded
-returns-then-is-wounded g c =
+pub returns-then-is_wounded : goal.returns-then-is_wounded
+returns-then-is_wounded g c =
     let home = g.K.Kind.home in let show = g.S.Shelf.rows c.args.self.now.show in let drafts = g.D.Shelf.rows c.args.self.now.drafts in
     let t = c.args.self.now.locks in let s = c.args.station in let before = view home g.S.Shelf.rows g.D.Shelf.rows c.args.self.now in
-    let ok = admission_of s c.in-ok-s.s _ (sym c.in-ok-s.was ∙ c.admit-give-up.ensures) in
+    let ok = admission_of s c.in_ok-s.s _ (sym c.in_ok-s.was ∙ c.admit_give_up.ensures) in
     let at = give_up_acts g.row.K-Change.Denot before s ok.0 in let low : s < 16 = at.0 in
-    let told = give_up_wounded g.K.Kind.applied before s (ap (λ (j : ℕ). is_wounded (bare t.stations j).phase) (sym ok.1) ∙ sym c.is_wounded.ensures ∙ c.if-is-wounded.true) in
+    let told = give_up_wounded g.K.Kind.applied before s (ap (λ (j : ℕ). is_wounded (bare t.stations j).phase) (sym ok.1) ∙ sym c.is_wounded.ensures ∙ c.if-is_wounded.true) in
     record {
       ruled = λ _. accepted_step g.K.Kind.applied (GiveUp s) before _ _ ok.0 (sym told.0)
           (table_of_all (ap (stations_with (drafts_of home drafts)) (c.free.ensures.stations ∙ ap (λ (j : ℕ). change freed j t.stations) ok.1) ∙ freed_view (drafts_of home drafts) t.stations s (omega (arith, low, t.full)))
@@ -47,13 +47,13 @@ returns-then-is-wounded g c =
       drafts = kept_same _ _ _ c.args.self.now.drafts;
     }
 
-pub returns-else-is-wounded : goal.returns-else-is-wounded
-returns-else-is-wounded g c =
+pub returns-else-is_wounded : goal.returns-else-is_wounded
+returns-else-is_wounded g c =
     let home = g.K.Kind.home in let show = g.S.Shelf.rows c.args.self.now.show in let drafts = g.D.Shelf.rows c.args.self.now.drafts in
     let rows = g.D.Shelf.rows c.withdraw.new.self.drafts in
     let t = c.args.self.now.locks in let s = c.args.station in let before = view home g.S.Shelf.rows g.D.Shelf.rows c.args.self.now in
-    let ok = admission_of s c.in-ok-s.s _ (sym c.in-ok-s.was ∙ c.admit-give-up.ensures) in
-    let told = give_up_at_work g.K.Kind.applied before s (ap (λ (j : ℕ). is_wounded (bare t.stations j).phase) (sym ok.1) ∙ sym c.is_wounded.ensures ∙ c.if-is-wounded.false) in
+    let ok = admission_of s c.in_ok-s.s _ (sym c.in_ok-s.was ∙ c.admit_give_up.ensures) in
+    let told = give_up_at_work g.K.Kind.applied before s (ap (λ (j : ℕ). is_wounded (bare t.stations j).phase) (sym ok.1) ∙ sym c.is_wounded.ensures ∙ c.if-is_wounded.false) in
     let rest = c.withdraw.ensures.rest in let old = stations_with (drafts_of home drafts) t.stations in
     record {
       ruled = λ orderly.

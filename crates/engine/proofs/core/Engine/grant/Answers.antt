@@ -9,9 +9,9 @@ use Rattle.engine.proofs.core.Engine.grant.Goals as goal
 pub returns-in-Some : goal.returns-in-Some
 returns-in-Some g c =
     let home = g.K.Kind.home in let t = c.args.self.now.locks in
-    let drafts = g.D.Shelf.rows c.args.self.now.drafts in let rows = g.D.Shelf.rows c.start-draft.new.self.drafts in
+    let drafts = g.D.Shelf.rows c.args.self.now.drafts in let rows = g.D.Shelf.rows c.start_draft.new.self.drafts in
     let show = show_of home (g.S.Shelf.rows c.args.self.now.show) in
-    let started = c.start-draft.ensures in
+    let started = c.start_draft.ensures in
     let waits = c.in-Some.ensures in
     let made = c.grant.ensures.stations ∙ ap (λ (l : LockTable). change granted c.args.s l.stations) started.locks in
     record {
@@ -28,12 +28,12 @@ returns-in-Some g c =
       };
     }
 
-pub returns-in-default : goal.returns-in-default
-returns-in-default g c =
+pub returns-in_default : goal.returns-in_default
+returns-in_default g c =
     let home = g.K.Kind.home in
     record {
       stations = λ _. nothing_granted (drafts_of home (g.D.Shelf.rows c.args.self.now.drafts)) (drafts_of home (g.D.Shelf.rows c.args.self.now.drafts))
-          (show_of home (g.S.Shelf.rows c.args.self.now.show)) c.args.self.now.locks c.args.s c.in-default.ensures;
+          (show_of home (g.S.Shelf.rows c.args.self.now.show)) c.args.self.now.locks c.args.s c.in_default.ensures;
       served = λ served. served;
       rest = stations_alone g.D.Shelf.rows g.D.Shelf.memory g.D.Shelf.sound c.args.self.now;
     }

@@ -13,13 +13,13 @@ loop-k-preserved g c =
     let x = get_or c.args.self.now.locks.stations s no_station in
     let these = g.S.Shelf.rows c.loop-k.self.show in
     let low : k < x.held = subst (λ (n : ℕ). k < n) c.held-held.ensures.held c.loop-k-test.true in (
-      one_draft_more (drafts_of home (g.D.Shelf.rows c.args.self.now.drafts) s) x k (g.S.Shelf.rows c.args.self.now.show) these (g.S.Shelf.rows c.write-draft.new.self.show) low inv.0
-          (c.write-draft.ensures.rows
+      one_draft_more (drafts_of home (g.D.Shelf.rows c.args.self.now.drafts) s) x k (g.S.Shelf.rows c.args.self.now.show) these (g.S.Shelf.rows c.write_draft.new.self.show) low inv.0
+          (c.write_draft.ensures.rows
           ∙ ap (λ (l : LockTable). with_draft (hold_at (get_or l.stations s no_station) k) (drafts_of home (g.D.Shelf.rows c.loop-k.self.drafts) s k) these) inv.3
           ∙ ap (λ d. with_draft (hold_at x k) (drafts_of home (g.D.Shelf.rows d) s k) these) inv.2),
-      kept_both inv.1 c.write-draft.ensures.show,
-      c.write-draft.ensures.drafts ∙ inv.2,
-      c.write-draft.ensures.locks ∙ inv.3,
+      kept_both inv.1 c.write_draft.ensures.show,
+      c.write_draft.ensures.drafts ∙ inv.2,
+      c.write_draft.ensures.locks ∙ inv.3,
     )
 
 pub returns : goal.returns

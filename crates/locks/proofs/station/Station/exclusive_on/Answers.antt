@@ -10,16 +10,16 @@ by_place : (s : Station) (r : ℕ) (o : Option ℕ) → o ≡ place_on r s.hand 
     → draft_at (λ k. k) s.hand o ≡ draft_in (hold_on r (hand_with (λ k. k) s.hand s.held))
 by_place s r o e = ap (draft_at (λ k. k) s.hand) e ∙ sym (draft_at_place (λ k. k) r s.hand s.held)
 
-pub returns-then-is-exclusive : goal.returns-then-is-exclusive
-returns-then-is-exclusive c = record {
+pub returns-then-is_exclusive : goal.returns-then-is_exclusive
+returns-then-is_exclusive c = record {
   within = c.in-Some.ensures.within;
-  place = draft_exclusive _ c.in-Some.k c.if-is-exclusive.ensures ∙ by_place c.args.self.now c.args.at (Some c.in-Some.k) c.in-Some.ensures.place;
+  place = draft_exclusive _ c.in-Some.k c.if-is_exclusive.ensures ∙ by_place c.args.self.now c.args.at (Some c.in-Some.k) c.in-Some.ensures.place;
 }
 
-pub returns-else-is-exclusive : goal.returns-else-is-exclusive
-returns-else-is-exclusive c = record {
+pub returns-else-is_exclusive : goal.returns-else-is_exclusive
+returns-else-is_exclusive c = record {
   within = tt;
-  place = draft_shared _ c.in-Some.k c.if-is-exclusive.ensures ∙ by_place c.args.self.now c.args.at (Some c.in-Some.k) c.in-Some.ensures.place;
+  place = draft_shared _ c.in-Some.k c.if-is_exclusive.ensures ∙ by_place c.args.self.now c.args.at (Some c.in-Some.k) c.in-Some.ensures.place;
 }
 
 pub returns-in-None : goal.returns-in-None

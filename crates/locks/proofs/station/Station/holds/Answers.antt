@@ -5,4 +5,4 @@ use Rattle.locks.proofs.station.Station.holds.Goals as goal
 pub returns : goal.returns
 returns c =
     let s = c.args.self.now in
-    c.is-some.ensures ∙ ap is_some c.place_on.ensures.place ∙ sym (holds_at_place (λ k. tt {0}) c.args.at s.hand s.held)
+    c.is_some.ensures ∙ ap is_some c.place_on.ensures.place ∙ sym (holds_at_place (λ k. tt {0}) c.args.at s.hand s.held)

@@ -27,12 +27,12 @@ found P x (Some why) h = tt
 pub returns : goal.returns
 returns c =
     let t = c.args.self.now in
-    let i = c.in-ok-i.i in
-    let k = c.in-ok-i.k in
-    let hold = c.in-ok-i.ensures.place in
+    let i = c.in_ok-i.i in
+    let k = c.in_ok-i.k in
+    let hold = c.in_ok-i.ensures.place in
     let mode : ℕ → Mode = λ j. (get_or (get_or t.stations j no_station).hand k no_hold).mode in
     record {
-      refusal = ap refusal_in c.admit-exclusive.ensures ∙ refused_in (i, k) (shared_refused (mode i)) ∙ ap (λ j. shared_refused (mode j)) hold.station ∙ sym (by_mode (mode c.args.s))
-          ∙ sym (change_by_mode t c.args.s c.args.at c.args.records (Some k) c.in-ok-i.ensures.refusal hold.place);
-      place = subst (λ (r : Result (ℕ × ℕ) Refusal). IfOk r (HoldOf t c.args.s c.args.at)) (sym c.admit-exclusive.ensures) (found (HoldOf t c.args.s c.args.at) (i, k) (shared_refused (mode i)) hold);
+      refusal = ap refusal_in c.admit_exclusive.ensures ∙ refused_in (i, k) (shared_refused (mode i)) ∙ ap (λ j. shared_refused (mode j)) hold.station ∙ sym (by_mode (mode c.args.s))
+          ∙ sym (change_by_mode t c.args.s c.args.at c.args.records (Some k) c.in_ok-i.ensures.refusal hold.place);
+      place = subst (λ (r : Result (ℕ × ℕ) Refusal). IfOk r (HoldOf t c.args.s c.args.at)) (sym c.admit_exclusive.ensures) (found (HoldOf t c.args.s c.args.at) (i, k) (shared_refused (mode i)) hold);
     }

@@ -11,22 +11,22 @@ use Rattle.locks.proofs.table.LockTable.admit_hold.Goals as goal
 by_stage : Stage → Option Refusal
 by_stage stage = cond (not (is_owned stage)) (Some refusal.Unowned) None
 
-pub returns-in-default : goal.returns-in-default
-returns-in-default c =
+pub returns-in_default : goal.returns-in_default
+returns-in_default c =
     let t = c.args.self.now in
-    record { refusal = sym (look_by_hold t c.args.s c.in-ok-i.i c.args.at c.args.records c.in-ok-i.ensures None c.in-default.ensures.place); place = tt }
+    record { refusal = sym (look_by_hold t c.args.s c.in_ok-i.i c.args.at c.args.records c.in_ok-i.ensures None c.in_default.ensures.place); place = tt }
 
 pub returns-in-Owned : goal.returns-in-Owned
 unfolding by_stage
 returns-in-Owned c =
     let t = c.args.self.now in
-    let i = c.in-ok-i.i in
-    let e = named_station t c.args.s i c.args.at c.args.records c.in-ok-i.ensures in
+    let i = c.in_ok-i.i in
+    let e = named_station t c.args.s i c.args.at c.args.records c.in_ok-i.ensures in
     record {
-      refusal = sym (look_by_hold t c.args.s i c.args.at c.args.records c.in-ok-i.ensures (Some c.in-Some.k) c.in-Some.ensures.place ∙ ap by_stage c.in-Owned.is);
+      refusal = sym (look_by_hold t c.args.s i c.args.at c.args.records c.in_ok-i.ensures (Some c.in-Some.k) c.in-Some.ensures.place ∙ ap by_stage c.in-Owned.is);
       place = record {
         station = e;
-        station_below = station_below t c.args.s i c.args.at c.args.records c.in-ok-i.ensures;
+        station_below = station_below t c.args.s i c.args.at c.args.records c.in_ok-i.ensures;
         place = c.in-Some.ensures.place ∙ ap (λ j. place_on c.args.at (get_or t.stations j no_station).hand (get_or t.stations j no_station).held) e;
         place_below = subst (λ j. c.in-Some.k < (get_or t.stations j no_station).held) e c.in-Some.ensures.within;
       };
@@ -36,4 +36,4 @@ pub returns-in-Retired : goal.returns-in-Retired
 unfolding by_stage
 returns-in-Retired c =
     let t = c.args.self.now in
-    record { refusal = sym (look_by_hold t c.args.s c.in-ok-i.i c.args.at c.args.records c.in-ok-i.ensures (Some c.in-Some.k) c.in-Some.ensures.place ∙ ap by_stage c.in-Retired.is); place = tt }
+    record { refusal = sym (look_by_hold t c.args.s c.in_ok-i.i c.args.at c.args.records c.in_ok-i.ensures (Some c.in-Some.k) c.in-Some.ensures.place ∙ ap by_stage c.in-Retired.is); place = tt }

@@ -10,15 +10,15 @@ use Rattle.locks.proofs.table.LockTable.admit_take.Goals as goal
 pub returns-then-self-i-ge16 : goal.returns-then-self-i-ge16
 returns-then-self-i-ge16 c m =
     let t = c.args.self.now in
-    let i = c.in-ok-i.i in
-    let e = take_by_hand t c.args.s i c.args.at c.args.records c.in-ok-i.ensures m c.if-holds.ensures
+    let i = c.in_ok-i.i in
+    let e = take_by_hand t c.args.s i c.args.at c.args.records c.in_ok-i.ensures m c.if-holds.ensures
     ∙ cond-true (leb 16 (get_or t.stations i no_station).held) (Some refusal.Hand) None (le-leb 16 (get_or t.stations i no_station).held c.if-self-i-ge16.true) in
     ap (admitted c.args.s) (sym e)
 
 pub returns-else-self-i-ge16 : goal.returns-else-self-i-ge16
 returns-else-self-i-ge16 c m =
     let t = c.args.self.now in
-    let i = c.in-ok-i.i in
-    let e = take_by_hand t c.args.s i c.args.at c.args.records c.in-ok-i.ensures m c.if-holds.ensures
+    let i = c.in_ok-i.i in
+    let e = take_by_hand t c.args.s i c.args.at c.args.records c.in_ok-i.ensures m c.if-holds.ensures
     ∙ cond-false (leb 16 (get_or t.stations i no_station).held) (Some refusal.Hand) None (lt-leb 16 (get_or t.stations i no_station).held c.if-self-i-ge16.false) in
-    ap Ok (named_station t c.args.s i c.args.at c.args.records c.in-ok-i.ensures) ∙ ap (admitted c.args.s) (sym e)
+    ap Ok (named_station t c.args.s i c.args.at c.args.records c.in_ok-i.ensures) ∙ ap (admitted c.args.s) (sym e)

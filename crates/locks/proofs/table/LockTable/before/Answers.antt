@@ -10,9 +10,9 @@ loop-j-init c = (tt, refl)
 
 pub loop-j-preserved : goal.loop-j-preserved
 loop-j-preserved c = (
-  c.younger-of-found.ensures.within,
-  nearest_turn c.args.self.now.stations c.args.i c.args.at c.loop-j.j c.older-place.result c.stamp.result c.loop-j.found c.younger-of-found.result
-      c.loop-j.invariant.1 c.older-place.ensures.place c.stamp.ensures c.younger-of-found.ensures.younger,
+  c.younger_of-found.ensures.within,
+  nearest_turn c.args.self.now.stations c.args.i c.args.at c.loop-j.j c.older_place.result c.stamp.result c.loop-j.found c.younger_of-found.result
+      c.loop-j.invariant.1 c.older_place.ensures.place c.stamp.ensures c.younger_of-found.ensures.younger,
 )
 
 pub returns : goal.returns

@@ -2,8 +2,8 @@ use Rattle.std.proofs.Common.{◌<◌, ◌≤◌, arith, rules}
 use Rattle.locks.proofs.Kept.{begun_kept}
 use Rattle.locks.proofs.table.LockTable.begin.Goals as goal
 
-pub invariant-of-self : goal.invariant-of-self
-invariant-of-self c =
+pub invariant_of-self : goal.invariant_of-self
+invariant_of-self c =
     let t = c.args.self.now in
     let below : c.args.s < 16 = search rules in
     let last : t.next ≤ 4000000000 = search rules in

@@ -4,7 +4,7 @@ use Rattle.locks.specs.View.{bare, no_station, hand_with}
 use Rattle.locks.proofs.Bonds.{no_bonds_past, bonds_bound, bonds_unbound}
 use Rattle.locks.proofs.Turns.{all_turns}
 use Rattle.locks.proofs.table.LockTable.bonds.Goals as goal
-use Rattle.locks.proofs.table.LockTable.bonds.Goals.{then-bound-on, else-bound-on}
+use Rattle.locks.proofs.table.LockTable.bonds.Goals.{then-bound_on, else-bound_on}
 
 pub returns-then-i-ge16 : goal.returns-then-i-ge16
 returns-then-i-ge16 c = sym (no_bonds_past c.args.self.now.stations c.args.i (omega arith))
@@ -13,9 +13,9 @@ pub loop-k-preserved : goal.loop-k-preserved
 loop-k-preserved c =
     let xs = c.args.self.now.stations in
     let hand = (get_or xs c.args.i no_station).hand in
-    elim c.if-bound-on.branch [
-      | then-bound-on w ↦ (let e = bonds_bound xs c.args.i hand c.loop-k.k w.if-bound-on.ensures in (omega (arith, w.n-is), omega (arith, e, w.n-is)))
-      | else-bound-on w ↦ (let e = bonds_unbound xs c.args.i hand c.loop-k.k w.if-bound-on.ensures in (omega (arith, w.n-is), omega (arith, e, w.n-is)))
+    elim c.if-bound_on.branch [
+      | then-bound_on w ↦ (let e = bonds_bound xs c.args.i hand c.loop-k.k w.if-bound_on.ensures in (omega (arith, w.n-is), omega (arith, e, w.n-is)))
+      | else-bound_on w ↦ (let e = bonds_unbound xs c.args.i hand c.loop-k.k w.if-bound_on.ensures in (omega (arith, w.n-is), omega (arith, e, w.n-is)))
     ]
 
 pub returns : goal.returns

@@ -9,11 +9,11 @@ counted c =
     let t = c.args.self.now in
     counted_kept t.stations c.args.s t.next t.commits c.free.new.self.stations c.free.ensures.stations (sym c.if-counts.ensures) t.full t.stamped
 
-pub overflow-add-self : goal.overflow-add-self
-overflow-add-self c = let fits = counted c in let same = c.free.ensures.commits in search rules
+pub overflow_add-self : goal.overflow_add-self
+overflow_add-self c = let fits = counted c in let same = c.free.ensures.commits in search rules
 
-pub invariant-of-self : goal.invariant-of-self
-invariant-of-self c =
+pub invariant_of-self : goal.invariant_of-self
+invariant_of-self c =
     let u = c.free.new.self in
     let fits = counted c in
     (u.full, (u.hands, (u.room, (omega (arith, fits, c.free.ensures.commits, c.free.ensures.stamps), (u.width, tt)))))

@@ -4,8 +4,8 @@ use Rattle.locks.specs.Changes.{freed}
 use Rattle.locks.proofs.Kept.{kept_by, freed_keeps}
 use Rattle.locks.proofs.table.LockTable.free.Goals as goal
 
-pub invariant-of-self : goal.invariant-of-self
-invariant-of-self c =
+pub invariant_of-self : goal.invariant_of-self
+invariant_of-self c =
     let t = c.args.self.now in
     kept_by freed freed_keeps t.stations c.args.s t.next t.commits c.free.new.self c.if-s-lt16.true c.free.ensures t.full t.hands t.room t.stamped t.width
 

@@ -9,7 +9,7 @@ use Rattle.locks.proofs.table.LockTable.grantable.Goals as goal
 pub loop-i-preserved : goal.loop-i-preserved
 unfolding grantable
 loop-i-preserved c =
-    first_turn (grantable (bare c.args.self.now.stations)) c.loop-i.i c.loop-i.found c.found-first-found.result _ c.loop-i.invariant c.ready.ensures c.found-first-found.ensures
+    first_turn (grantable (bare c.args.self.now.stations)) c.loop-i.i c.loop-i.found c.found_first-found.result _ c.loop-i.invariant c.ready.ensures c.found_first-found.ensures
 
 pub returns : goal.returns
 returns c =

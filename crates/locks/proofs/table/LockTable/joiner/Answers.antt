@@ -9,7 +9,7 @@ use Rattle.locks.proofs.table.LockTable.joiner.Goals as goal
 pub loop-i-preserved : goal.loop-i-preserved
 loop-i-preserved c =
     let p = joins (bare c.args.self.now.stations) (member_of c.args.members.now) in
-    first_turn p c.loop-i.i c.loop-i.found c.found-first-found.result _ c.loop-i.invariant (and_both refl c.pulled.ensures) c.found-first-found.ensures
+    first_turn p c.loop-i.i c.loop-i.found c.found_first-found.result _ c.loop-i.invariant (and_both refl c.pulled.ensures) c.found_first-found.ensures
 
 pub returns : goal.returns
 returns c =

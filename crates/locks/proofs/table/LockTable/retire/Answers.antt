@@ -4,8 +4,8 @@ use Rattle.locks.specs.Changes.{retired_at}
 use Rattle.locks.proofs.Kept.{kept_by, retired_keeps}
 use Rattle.locks.proofs.table.LockTable.retire.Goals as goal
 
-pub invariant-of-self : goal.invariant-of-self
-invariant-of-self c =
+pub invariant_of-self : goal.invariant_of-self
+invariant_of-self c =
     let t = c.args.self.now in
     kept_by (retired_at c.args.place) (retired_keeps c.args.place) t.stations c.args.s t.next t.commits c.retire.new.self c.if-s-lt16.true c.retire.ensures t.full t.hands t.room t.stamped t.width
 

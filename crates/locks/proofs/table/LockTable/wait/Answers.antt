@@ -4,8 +4,8 @@ use Rattle.locks.specs.Changes.{awaiting}
 use Rattle.locks.proofs.Kept.{kept_by, awaiting_keeps}
 use Rattle.locks.proofs.table.LockTable.wait.Goals as goal
 
-pub invariant-of-self : goal.invariant-of-self
-invariant-of-self c =
+pub invariant_of-self : goal.invariant_of-self
+invariant_of-self c =
     let t = c.args.self.now in
     kept_by (awaiting c.args.at c.args.mode) (awaiting_keeps c.args.at c.args.mode) t.stations c.args.s t.next t.commits c.wait.new.self c.if-s-lt16.true c.wait.ensures t.full t.hands t.room t.stamped t.width
 

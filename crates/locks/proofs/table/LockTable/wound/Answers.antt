@@ -7,8 +7,8 @@ use Rattle.locks.proofs.Turns.{all_turns}
 use Rattle.locks.proofs.table.LockTable.wound.Goals as goal
 use Rattle.locks.proofs.table.LockTable.wound.Goals.{then-members-s, else-members-s}
 
-pub invariant-of-self : goal.invariant-of-self
-invariant-of-self c =
+pub invariant_of-self : goal.invariant_of-self
+invariant_of-self c =
     let t = c.loop-s.self in
     kept_by wounded wounded_keeps t.stations c.loop-s.s t.next t.commits c.wound.new.self c.loop-s-test.true c.wound.ensures t.full t.hands t.room t.stamped t.width
 

@@ -8,10 +8,10 @@ returns-then-n-self g c =
     let reading = g.K.Kind.reading in let lines = c.args.self.now.lines.now in
     record {
       answer = accepted_below (map reading lines) c.args.n (simp length-map c.if-n-self.true);
-      after = map_written reading lines c.args.n c.to-numbers.result c.args.v (ap reading c.to-numbers.ensures ∙ g.met.K.Kind.reads_numbers c.args.v);
+      after = map_written reading lines c.args.n c.to_numbers.result c.args.v (ap reading c.to_numbers.ensures ∙ g.met.K.Kind.reads_numbers c.args.v);
       memory = refl;
       sound = λ u. u;
-      lines = ap (set lines c.args.n) c.to-numbers.ensures;
+      lines = ap (set lines c.args.n) c.to_numbers.ensures;
     }
 
 pub returns-else-n-self : goal.returns-else-n-self
