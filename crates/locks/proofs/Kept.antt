@@ -49,10 +49,13 @@ attempts_fewer xs s y full keeps =
 
 -- what every table keeps, as its ghost fields have it
 abbrev pub Facts : List Station → ℕ → ℕ → Type 0
-Facts xs next commits =
-    (length xs ≡ 16) × (((i : ℕ) → i < 16 → length (get_or xs i no_station).hand ≡ 16)
-    × (((i : ℕ) → i < 16 → (get_or xs i no_station).held + claimed (get_or xs i no_station).phase ≤ 16)
-    × ((commits + attempts xs ≤ next) × ((next < 4294967296) × Unit {0}))))
+Facts xs next commits = record {
+  full : length xs ≡ 16;
+  hands : (i : ℕ) → i < 16 → length (get_or xs i no_station).hand ≡ 16;
+  room : (i : ℕ) → i < 16 → (get_or xs i no_station).held + claimed (get_or xs i no_station).phase ≤ 16;
+  stamped : commits + attempts xs ≤ next;
+  width : next < 4294967296;
+}
 
 -- a place past the hand has nothing to retire
 pub retired_past : (k : ℕ) (s : Station) → length s.hand ≤ k → s ≡ retired_at k s
@@ -69,16 +72,13 @@ pub kept : (xs : List Station) (s next commits : ℕ) (y : Station) → length x
     → ((i : ℕ) → i < 16 → (get_or xs i no_station).held + claimed (get_or xs i no_station).phase ≤ 16)
     → (s < 16 → length y.hand ≡ 16) → (s < 16 → y.held + claimed y.phase ≤ 16)
     → commits + attempts (set xs s y) ≤ next → next < 4294967296 → Facts (set xs s y) next commits
-kept xs s next commits y full hands room hand place stamped width = (
-  length-set xs s y ∙ full,
-  (
-    set_keeps (λ x. length x.hand ≡ 16) xs s y full hands hand,
-    (
-      set_keeps (λ x. x.held + claimed x.phase ≤ 16) xs s y full room place,
-      (stamped, (width, tt)),
-    ),
-  ),
-)
+kept xs s next commits y full hands room hand place stamped width = record {
+  full = length-set xs s y ∙ full;
+  hands = set_keeps (λ x. length x.hand ≡ 16) xs s y full hands hand;
+  room = set_keeps (λ x. x.held + claimed x.phase ≤ 16) xs s y full room place;
+  stamped = stamped;
+  width = width;
+}
 
 -- what a table keeps, after a change that keeps it of its station
 pub kept_by : (f : Station → Station) → Keeps f → (xs : List Station) (s next commits : ℕ) (y : Station) → s < 16 → y ≡ f (get_or xs s no_station)
@@ -205,16 +205,13 @@ counted_kept xs s next commits ys e a full stamped =
 
 -- what a new table keeps
 pub new_kept : (next : ℕ) (xs : List Station) → xs ≡ replicate 16 idle_entry → next < 4294967296 → Facts xs next 0
-new_kept next xs e width = (
-  ap length e,
-  (
-    λ i h. ap (λ ys. length (get_or ys i no_station).hand) e ∙ ap (λ (x : Station). length x.hand) (get_or-replicate 16 i idle_entry no_station h),
-    (
-      λ i h. subst (λ (x : Station). x.held + claimed x.phase ≤ 16) (sym (ap (λ ys. get_or ys i no_station) e ∙ get_or-replicate 16 i idle_entry no_station h)) (omega arith),
-      (let none = ap attempts e ∙ attempts_none in omega (arith, none), (width, tt)),
-    ),
-  ),
-)
+new_kept next xs e width = record {
+  full = ap length e;
+  hands = λ i h. ap (λ ys. length (get_or ys i no_station).hand) e ∙ ap (λ (x : Station). length x.hand) (get_or-replicate 16 i idle_entry no_station h);
+  room = λ i h. subst (λ (x : Station). x.held + claimed x.phase ≤ 16) (sym (ap (λ ys. get_or ys i no_station) e ∙ get_or-replicate 16 i idle_entry no_station h)) (omega arith);
+  stamped = let none = ap attempts e ∙ attempts_none in omega (arith, none);
+  width = width;
+}
 
 -- one member more is wounded
 pub wounded_here : (members : ℕ → Bool) (xs : List Station) (n : ℕ) → members n ≡ true → wounded_below (n + 1) members xs ≡ change wounded n (wounded_below n members xs)

@@ -6,7 +6,7 @@ use Rattle.engine.proofs.core.Engine.settle.Goals as goal
 
 pub loop-round-preserved : goal.loop-round-preserved
 loop-round-preserved g c =
-    let home = g.K.Kind.home in let n = c.loop-round.-round in
+    let home = g.K.Kind.home in let n = c.loop-round._round in
     let show = show_of home (g.S.Shelf.rows c.args.self.now.show) in
     let here = c.loop-round.self in
     let drafts = drafts_of home (g.D.Shelf.rows here.drafts) in
@@ -22,7 +22,7 @@ loop-round-preserved g c =
 
 pub returns-in-None : goal.returns-in-None
 returns-in-None g c =
-    let home = g.K.Kind.home in let n = c.loop-round.-round in
+    let home = g.K.Kind.home in let n = c.loop-round._round in
     let show = show_of home (g.S.Shelf.rows c.args.self.now.show) in
     let here = c.loop-round.self in
     record {
@@ -34,7 +34,7 @@ returns-in-None g c =
 
 pub returns : goal.returns
 returns g c =
-    let home = g.K.Kind.home in let n = c.loop-round.-round in
+    let home = g.K.Kind.home in let n = c.loop-round._round in
     let show = show_of home (g.S.Shelf.rows c.args.self.now.show) in
     record {
       stations = λ served.
