@@ -10,11 +10,22 @@ use Rattle.rules.specs.Tables.{Table, Stations}
 use Rattle.rules.specs.Calls.{step, refusals, first_refusal, answer, after, outcome}
 use Rattle.locks.specs.Admission.{admitted}
 use Rattle.engine.specs.Answers.{as_answer, Ruled, Kept}
+use Rattle.engine.specs.View.{SameTable}
 
 -- equal parts make equal tables
 pub table_of_all : {V : Type 0} {s u : Stations V} {n m c d : ℕ} {show other : ℕ → V} {records count : ℕ} → s ≡ u → n ≡ m → c ≡ d → show ≡ other → records ≡ count
     → ◌≡◌ {A = Table V} (record { stations = s; next_stamp = n; commits = c; show = show; records = records }) (record { stations = u; next_stamp = m; commits = d; show = other; records = count })
 table_of_all e f g h k = λ i. record { stations = e i; next_stamp = f i; commits = g i; show = h i; records = k i }
+
+-- equal tables agree in every field
+pub same_table : {V : Type 0} (t u : Table V) → t ≡ u → SameTable t u
+same_table {V = V} t u e = record {
+  stations = λ i. ap (λ (x : Table V). x.stations i) e;
+  next_stamp = ap (λ (x : Table V). x.next_stamp) e;
+  commits = ap (λ (x : Table V). x.commits) e;
+  show = λ r. ap (λ (x : Table V). x.show r) e;
+  records = ap (λ (x : Table V). x.records) e;
+}
 
 -- what was not admitted was refused, and what was admitted was not
 pub refusal_of : {A : Type 0} (x : A) (o : Option Refusal) (why : Refusal) → Err why ≡ admitted x o → o ≡ Some why

@@ -40,17 +40,17 @@ pub returns : goal.returns
 returns g c =
     let home = g.K.Kind.home in let show = g.S.Shelf.rows c.args.self.now.show in let drafts = g.D.Shelf.rows c.args.self.now.drafts in
     let apply = g.K.Kind.applied in let plotted = g.S.Shelf.rows c.write_drafts.new.self.show in let rows = g.D.Shelf.rows c.settle.new.self.drafts in
-    let t = c.args.self.now.locks in let u = c.commit_number.new.self in let w = c.settle.new.self.locks in
-    let s = c.args.station in let i = c.in_ok-s.s in let number = c.commit_number.result in
+    let t = c.args.self.now.locks in let u = c.commit-number.new.self in let w = c.settle.new.self.locks in
+    let s = c.args.station in let i = c.in_ok-s.s in let number = c.commit-number.result in
     let named = c.admit_commit.ensures in
     let ok = admission_of s i _ (sym c.in_ok-s.was ∙ named.2) in
     let writes = c.write_drafts.ensures.rows in let same-locks = c.write_drafts.ensures.locks in let same-drafts = c.write_drafts.ensures.drafts in
-    let frees = c.commit_number.ensures.stations ∙ ap (λ (l : LockTable). change freed i l.stations) same-locks in
-    let counts = c.commit_number.ensures.commits ∙ ap (λ (l : LockTable). cond (active_at l.stations i) (l.commits + 1) l.commits) same-locks in
-    let tells = c.commit_number.ensures.number in let rest = c.settle.ensures.rest in
+    let frees = c.commit-number.ensures.stations ∙ ap (λ (l : LockTable). change freed i l.stations) same-locks in
+    let counts = c.commit-number.ensures.commits ∙ ap (λ (l : LockTable). cond (active_at l.stations i) (l.commits + 1) l.commits) same-locks in
+    let tells = c.commit-number.ensures.number in let rest = c.settle.ensures.rest in
     let settles = subst (λ d. Served u.stations (g.D.Shelf.rows d) → stations_with (drafts_of home rows) w.stations ≡ settle (show_of home plotted) (stations_with (drafts_of home (g.D.Shelf.rows d)) u.stations)) same-drafts c.settle.ensures.stations in
     let long = rest.kept_drafts.same_count ∙ ap (λ d. length (g.D.Shelf.rows d)) same-drafts in
-    let next = rest.same_stamp ∙ c.commit_number.ensures.stamps ∙ ap (λ (l : LockTable). l.next) same-locks in
+    let next = rest.same_stamp ∙ c.commit-number.ensures.stamps ∙ ap (λ (l : LockTable). l.next) same-locks in
     let commits = rest.same_commits in
     record {
       ruled = λ orderly. (
