@@ -1,5 +1,5 @@
 -- A list copied over another element by element, and what the two loops that do so have done after n turns.
-use Rattle.std.proofs.Common.{◌≡◌, ℕ, zero, suc, ◌+◌, ◌<◌, ◌≤◌, min, true, false, ◌⊎◌, List, [], ◌∷◌, length, get_or, take, drop, set, is_ok, Some, None, Result, sym, refl, ap, ◌∙◌, subst, ⊎_elim, add-one, arith, drop_of_length-le, take_all, drop-cons, le-ltb, lt-ltb}
+use Rattle.std.proofs.Common.{◌≡◌, ℕ, zero, suc, ◌+◌, ◌<◌, ◌≤◌, min, true, false, List, [], ◌∷◌, length, get_or, take, drop, set, is_ok, Some, None, Result, sym, refl, ap, ◌∙◌, subst, ⊎_elim, add-one, arith, drop_of_length-le, take_all, drop-cons, le-ltb, lt-ltb}
 use Rattle.std.specs.List.{slice_get}
 use Rattle.std.proofs.lemmas.List.{length-map, get_or-map}
 use Rattle.std.proofs.lemmas.Option.{slice_get_past, slice_get-get_or}

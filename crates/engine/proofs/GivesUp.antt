@@ -1,5 +1,5 @@
 -- Give up, in the view.
-use Rattle.std.proofs.Common.{◌≡◌, ℕ, zero, suc, ◌<◌, ◌≤◌, Bool, true, false, cond, not, ◌&&◌, eqb, ltb, List, length, get_or, Some, None, sym, refl, ap, ◌∙◌, subst, ⊎_elim, arith, leb-false}
+use Rattle.std.proofs.Common.{◌≡◌, ℕ, zero, suc, ◌<◌, ◌≤◌, Bool, true, false, cond, not, ◌&&◌, eqb, ltb, List, length, get_or, Some, None, sym, refl, ap, ◌∙◌, ⊎_elim, arith, leb-false}
 use mathlib.Core.Path.{fun_ext}
 use Rattle.std.proofs.lemmas.Bool.{cases_lt, lt-ltb, le-ltb, ne_eqb, eqb-true}
 use Rattle.rules.specs.declared.Mode.{Mode}
@@ -20,9 +20,8 @@ use Rattle.locks.specs.View.{bare, no_station, phase_of, stations_with, awaited_
 use Rattle.locks.specs.Changes.{change, freed, wounded, wounded_phase, wounded_below}
 use Rattle.locks.proofs.Drafts.{widen_same}
 use Rattle.locks.proofs.ChangedViews.{wounded_view, wounded_length, freed_view, widened_active}
-use Rattle.engine.specs.View.{records_of, show_of, drafts_of, table_from}
+use Rattle.engine.specs.View.{table_from}
 use Rattle.engine.specs.Promoting.{Served}
-use Rattle.engine.proofs.Steps.{table_of_all}
 use Rattle.engine.proofs.Holders.{rows_fit}
 use Rattle.engine.proofs.Grants.{NoNewWait, waits_before}
 

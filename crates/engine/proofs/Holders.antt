@@ -1,15 +1,12 @@
 -- Look and change, in the view: the hold by its place, its draft, and the draft changed.
-use Rattle.std.proofs.Common.{◌≡◌, ℕ, ◌+◌, ◌*◌, ◌<◌, ◌≤◌, Bool, true, false, cond, not, ◌&&◌, eqb, ltb, leb, List, [], ◌∷◌, length, get_or, set, Some, None, Option, sym, refl, ap, ◌∙◌, subst, ⊎_elim, arith, length-set, lt-ltb, leb-false}
-use Rattle.std.proofs.lemmas.Bool.{and_parts, eqb-true, cases_Bool}
+use Rattle.std.proofs.Common.{◌≡◌, ℕ, ◌+◌, ◌*◌, ◌<◌, Bool, true, false, cond, not, List, [], ◌∷◌, length, get_or, set, Some, None, Option, sym, refl, ap, ◌∙◌, subst, arith, length-set, lt-ltb, leb-false}
+use Rattle.std.proofs.lemmas.Bool.{and_parts, eqb-true}
 use Rattle.rules.specs.declared.Refusal.{Refusal}
-use Rattle.rules.specs.declared.Mode.{Mode}
 use Rattle.rules.specs.declared.Mode.TheVariants.{Shared}
-use Rattle.rules.specs.declared.Call.{Call}
 use Rattle.rules.specs.declared.Call.TheVariants.{Look, Change}
-use Rattle.rules.specs.Tables.{Table, Stations, conflict, hold_on, draft_in, put, with_hand}
-use Rattle.rules.specs.Operations.{before, or_else, seen, draft_for, adjust, redrafted}
-use Rattle.rules.specs.Calls.{refusals, first_refusal, after, answer, only_shared}
-use Rattle.locks.specs.declared.station.Hold.{Hold}
+use Rattle.rules.specs.Tables.{Stations, conflict, hold_on, draft_in}
+use Rattle.rules.specs.Operations.{before, or_else, seen}
+use Rattle.rules.specs.Calls.{refusals, first_refusal, after}
 use Rattle.locks.specs.declared.table.LockTable.{LockTable}
 use Rattle.locks.specs.View.{no_hold, no_station, place_on, stations_with}
 use Rattle.locks.specs.Asked.{hold_at}

@@ -1,6 +1,5 @@
 -- Retire, in the view.
-use Rattle.std.proofs.Common.{◌≡◌, ℕ, ◌<◌, Bool, true, false, cond, not, ◌&&◌, List, length, get_or, Some, None, Option, sym, refl, ap, ◌∙◌, subst, arith, leb-false}
-use mathlib.Core.Path.{fun_ext}
+use Rattle.std.proofs.Common.{◌≡◌, ℕ, ◌<◌, Bool, not, ◌&&◌, List, length, get_or, None, Option, sym, refl, ap, ◌∙◌, arith, leb-false}
 use Rattle.rules.specs.declared.Refusal.{Refusal}
 use Rattle.rules.specs.declared.Call.TheVariants.{Look, Retire}
 use Rattle.rules.specs.declared.Answer.TheVariants.{Number}
@@ -10,7 +9,7 @@ use Rattle.rules.specs.Operations.{settle}
 use Rattle.rules.specs.Calls.{refusals, first_refusal, after, answer}
 use Rattle.rules.proofs.Admission.{all_tests_fail}
 use Rattle.locks.specs.declared.table.LockTable.{LockTable}
-use Rattle.locks.specs.View.{bare, no_station, stations_with, member_of, place_on}
+use Rattle.locks.specs.View.{bare, no_station, stations_with, member_of}
 use Rattle.locks.specs.Admission.{table_with, refused, HoldOf}
 use Rattle.locks.specs.Changes.{change, retired_at}
 use Rattle.locks.proofs.Drafts.{retire_same}

@@ -1,10 +1,9 @@
 -- Begin and again, in the view.
-use Rattle.std.proofs.Common.{◌≡◌, ℕ, suc, ◌+◌, ◌<◌, ◌≤◌, Bool, true, false, cond, not, ◌&&◌, ltb, leb, List, [], length, Some, None, Option, sym, refl, ap, ◌∙◌, ⊎_elim, add-one, arith, ltb-false, ltb-true, lt-ltb, le-leb, leb-false, leb-true}
+use Rattle.std.proofs.Common.{◌≡◌, ℕ, ◌+◌, ◌<◌, ◌≤◌, Bool, true, false, cond, not, length, Some, None, Option, refl, ap, ◌∙◌, add-one, arith, ltb-false, lt-ltb, le-leb, leb-false}
 use Rattle.std.proofs.lemmas.Bool.{and_from}
 use Rattle.rules.specs.declared.Refusal.{Refusal}
 use Rattle.rules.specs.declared.Call.TheVariants.{Begin, Again}
-use Rattle.rules.specs.Tables.{Table, Stations, put, running_station, is_wounded}
-use Rattle.rules.specs.Calls.{refusals, first_refusal, after, last_stamp}
+use Rattle.rules.specs.Calls.{after, last_stamp}
 use Rattle.locks.specs.declared.table.LockTable.{LockTable}
 use Rattle.locks.specs.View.{stations_with}
 use Rattle.locks.specs.Admission.{table_with, refused}

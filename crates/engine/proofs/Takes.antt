@@ -1,5 +1,5 @@
 -- Take, in the view.
-use Rattle.std.proofs.Common.{◌≡◌, ℕ, ◌<◌, Bool, true, false, cond, List, length, get_or, Some, None, Option, sym, refl, ap, ◌∙◌, subst, arith, leb-false}
+use Rattle.std.proofs.Common.{◌≡◌, ℕ, ◌<◌, Bool, true, cond, List, length, get_or, None, Option, sym, refl, ap, ◌∙◌, subst, arith, leb-false}
 use Rattle.rules.specs.declared.Mode.{Mode}
 use Rattle.rules.specs.declared.Refusal.{Refusal}
 use Rattle.rules.specs.declared.Outcome.{Outcome}
@@ -7,7 +7,7 @@ use Rattle.rules.specs.declared.Outcome.TheVariants.{Granted, Waits}
 use Rattle.rules.specs.declared.Call.TheVariants.{Take}
 use Rattle.rules.specs.declared.Answer.TheVariants.{Taken}
 use Rattle.rules.specs.Searches.{count_below}
-use Rattle.rules.specs.Tables.{Station, Stations, Table, running, is_waiting, wounded_station}
+use Rattle.rules.specs.Tables.{Station, Stations, running, is_waiting, wounded_station}
 use Rattle.rules.specs.Operations.{widen, wound, must_yield, wounded_by_take, add_wait, settle}
 use Rattle.rules.specs.Calls.{refusals, first_refusal, after, answer}
 use Rattle.rules.proofs.Admission.{all_tests_fail, take_admitted}

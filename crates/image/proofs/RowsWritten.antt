@@ -1,5 +1,5 @@
 -- The rows of an image, and what writing one of them does to each.
-use Rattle.std.proofs.Common.{◌≡◌, ℕ, ◌+◌, ◌-◌, ◌*◌, ◌/◌, ◌%◌, ◌<◌, ◌≤◌, Bool, cond, ltb, ◌⊎◌, List, map, length, get_or, take, drop, set, Some, None, Ok, Result, sym, refl, ap, ◌∙◌, inl, inr, ⊎_elim, arith, length-set, le-ltb, lt-ltb}
+use Rattle.std.proofs.Common.{◌≡◌, ℕ, ◌+◌, ◌*◌, ◌/◌, ◌%◌, ◌<◌, ◌≤◌, Bool, cond, List, map, length, get_or, set, Some, None, Ok, Result, sym, ap, ◌∙◌, inl, inr, ⊎_elim, arith, length-set, le-ltb, lt-ltb}
 use borrow.Rule.Slice.PartMut.{put_mid}
 use Rattle.std.specs.List.{range_with_len, slice_get}
 use Rattle.std.proofs.lemmas.List.FromFn.{length-map-range_with_len, get_or-map-range_with_len}

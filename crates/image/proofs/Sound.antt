@@ -1,13 +1,12 @@
 -- An image passes the check just when it is sound; a row that is written keeps an image so.
-use Rattle.std.proofs.Common.{◌≡◌, ℕ, zero, suc, ◌+◌, ◌-◌, ◌*◌, ◌/◌, ◌%◌, ◌<◌, ◌≤◌, Bool, true, false, cond, ◌&&◌, eqb, leb, ◌⊎◌, List, length, get_or, take, drop, is_ok, Ok, Err, Result, sym, refl, ap, ◌∙◌, subst, inl, inr, ⊎_elim, arith, length-drop, take_all, leb-true}
-use Rattle.std.specs.Str.{bytes_eq}
+use Rattle.std.proofs.Common.{◌≡◌, ℕ, ◌*◌, ◌/◌, ◌%◌, ◌<◌, ◌≤◌, Bool, true, false, cond, List, length, get_or, drop, is_ok, Ok, Err, Result, sym, refl, ap, ◌∙◌, subst, ⊎_elim, arith, length-drop, take_all, leb-true}
 use Rattle.std.proofs.lemmas.Slice.Eq.{bytes_eq-Decides}
 use Rattle.std.proofs.lemmas.Bool.{eqb-true, eq-eqb, le-leb, and_parts, and_from, cases_eq}
 use Rattle.values.specs.Packing.{number_at}
 use Rattle.image.specs.declared.fault.Fault.{Fault}
 use Rattle.image.specs.Blocks.{part, checks, closed, row_of, with_row}
 use Rattle.image.specs.Images.{row_count, block_of, row_written}
-use Rattle.image.specs.Faults.{Verdict, row_check, rows_check, clear, check_fits, block_check, blocks_check, whole_blocks, image_check}
+use Rattle.image.specs.Faults.{Verdict, row_check, clear, block_check, whole_blocks, image_check}
 use Rattle.image.specs.Sound.{BlockOf, ImageOf, Sound}
 use Rattle.image.proofs.Parts.{length_part}
 use Rattle.image.proofs.Blocks.{closed_check, closed_mark, closed_other, closed_row, length_with_row, row_written_is, row_written_other, header_stays}

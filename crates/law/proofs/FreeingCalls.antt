@@ -15,7 +15,7 @@ use Rattle.rules.specs.Calls.{state_of, after, answer}
 use Rattle.rules.proofs.Searches.{contradiction, none_not_some, eqb_refl}
 use Rattle.rules.proofs.Stations.{put_cases, put_same, put_other}
 use Rattle.rules.proofs.Widening.{widened_has_first}
-use Rattle.law.specs.Observer.{View, turned, at_work, Event, nothing, commits, ends, waits, taken_by, told, event, is_commit, Attempt, after_event, with_grant, continued, Observation, observe}
+use Rattle.law.specs.Observer.{View, turned, Event, nothing, commits, ends, waits, taken_by, told, event, is_commit, Attempt, after_event, with_grant, continued, Observation, observe}
 use Rattle.law.specs.Alone.{left, Agrees, all_left}
 use Rattle.law.proofs.Hands.{aspect_adjusted}
 use Rattle.law.proofs.Invariants.{Invariant, emptied_adds_nothing, put_keeps, adjusted_adds_nothing, put_leaves_blocked}

@@ -7,11 +7,10 @@ use Rattle.rules.specs.declared.Stage.TheVariants.{Owned}
 use Rattle.rules.specs.Tables.{Hold, Phase, idle, running, wounded, waiting, Station, Stations, conflict, mode_with, hold_mode, owned, is_idle, is_waiting, works, hold_on, running_station, waiting_station, with_hand, put}
 use Rattle.rules.specs.Operations.{draft_for, granted_station, adjust}
 use Rattle.rules.specs.Calls.{awaited}
-use Rattle.rules.specs.Widening.{holds}
 use Rattle.rules.specs.Orderly.{Distinct}
 use Rattle.rules.proofs.Searches.{contradiction}
 use Rattle.rules.proofs.Stations.{put_cases, put_same, put_other}
-use Rattle.law.specs.Observer.{stamp, oldest, waits}
+use Rattle.law.specs.Observer.{stamp, oldest}
 use Rattle.law.proofs.Hands.{hold_on_adjusted, hold_on_others, none_adjusted, length_adjusted}
 
 -- the holds of a station, and its wait, counted

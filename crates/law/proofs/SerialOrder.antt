@@ -9,7 +9,7 @@ use Rattle.rules.specs.Tables.{Hold, waiting, Station, Stations, conflict, hold_
 use Rattle.rules.specs.Operations.{youngest, older_draft, before, or_else, seen, bonds, wound, draft_for, granted_station, adjust, redrafted}
 use Rattle.rules.proofs.Searches.{contradiction, eqb_refl}
 use Rattle.rules.proofs.Stations.{put_cases, put_same, put_other}
-use Rattle.law.specs.Observer.{stamp, Entry, looked, changed, starts}
+use Rattle.law.specs.Observer.{stamp, Entry, looked, changed}
 use Rattle.law.specs.Alone.{left, Agrees}
 use Rattle.law.proofs.Hands.{hold_on_adjusted, hold_on_others, no_bonds_no_conflict, draft_is_exclusive, younger_counts_not, without_draft_counts_not, older_draft_parts, no_older_draft}
 use Rattle.law.proofs.StandsBefore.{youngest_without_oldest, CountsAlike, before_unchanged, before_is_plotted}

@@ -1,6 +1,6 @@
 -- Wounding a widened set: who is in it, and what wounding keeps.
-use Rattle.std.proofs.Common.{◌≡◌, ℕ, suc, ◌<◌, ◌≤◌, Bool, true, false, cond, ◌&&◌, eqb, leb, ◌⊎◌, List, [], ◌∷◌, length, is_some, Some, None, Option, sym, refl, ap, ◌∙◌, inl, inr, le_trans, le_of_lt, arith}
-use Rattle.std.proofs.lemmas.Bool.{cases_eq, or_left, or_right, and_parts, and_from, ltb-true, ltb-false, leb-true, le-leb}
+use Rattle.std.proofs.Common.{◌≡◌, ℕ, ◌<◌, Bool, true, false, cond, ◌&&◌, eqb, ◌⊎◌, List, [], ◌∷◌, length, is_some, Some, None, Option, sym, refl, ap, ◌∙◌, inl, inr, arith}
+use Rattle.std.proofs.lemmas.Bool.{cases_eq, or_left, or_right, and_parts, and_from, ltb-false}
 use Rattle.rules.specs.declared.Mode.{Mode}
 use Rattle.rules.specs.declared.Mode.TheVariants.{Exclusive}
 use Rattle.rules.specs.Tables.{Hold, running, Stations, conflict, mode_with, hold_mode, works, hold_on, conflicts, older, wounded_station}
@@ -8,7 +8,7 @@ use Rattle.rules.specs.Operations.{widen, wound, must_yield, wounded_by_take, ad
 use Rattle.rules.specs.Widening.{holds, holds_exclusively}
 use Rattle.rules.proofs.Searches.{contradiction, none_not_some}
 use Rattle.rules.proofs.Widening.{found_holds, widened_has_first, widened_closed, widened_least}
-use Rattle.rules.proofs.Spared.{taker_older, taker_spared}
+use Rattle.rules.proofs.Spared.{taker_spared}
 use Rattle.law.specs.Observer.{at_work}
 use Rattle.law.proofs.Invariants.{Invariant, works_not_idle, holder_works, holder_not_idle, holder_in_range, AddsNothing, unchanged_adds_nothing, emptied_adds_nothing, adding_nothing_keeps, wait_keeps}
 

@@ -2,7 +2,6 @@
 use Rattle.std.proofs.Common.{◌≡◌, ℕ, suc, ◌<◌, ◌≤◌, Bool, true, false, cond, not, ltb, leb, List, [], ◌∷◌, ◌++◌, length, get_or, is_some, Some, None, Ok, Err, Option, sym, refl, ap, ◌∙◌, ⊎_elim, arith}
 use Rattle.std.proofs.lemmas.Bool.{le-leb, lt-ltb, cases_lt, or_cases, cond-true, cond-false}
 use Rattle.rules.specs.declared.Mode.{Mode}
-use Rattle.rules.specs.declared.Mode.TheVariants.{Shared}
 use Rattle.rules.specs.declared.Refusal.{Refusal}
 use Rattle.rules.specs.declared.Refusal.TheVariants as refusal
 use Rattle.rules.specs.declared.Call.TheVariants.{Take, Look, Change, Commit}
@@ -12,7 +11,6 @@ use Rattle.rules.specs.Operations.{binds, bonds, bonds_in, behind_bond, behind_b
 use Rattle.rules.specs.Calls.{refusals, first_refusal, owns, held_test, hand_test, unowned_test, shared_test, bound_test}
 use Rattle.rules.proofs.Searches.{any_below_from}
 use Rattle.rules.proofs.Naming.{naming_is_free}
-use Rattle.locks.specs.declared.station.Station.{Station}
 use Rattle.locks.specs.declared.table.LockTable.{LockTable}
 use Rattle.locks.specs.View.{bare, no_station, held_by, place_on}
 use Rattle.locks.specs.Admission.{table_of, refused, running_tests, not_running, record_tests, no_record, admitted}

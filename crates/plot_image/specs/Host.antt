@@ -1,5 +1,5 @@
 -- What the host program gets: the check by a kind number, and its answer as one number.
-use Rattle.std.specs.Prelude.{◌≡◌, ℕ, zero, suc, ◌+◌, ◌*◌, cond, ◌⊎◌, List, length, Ok, Err, ◌==◌}
+use Rattle.std.specs.Prelude.{◌≡◌, ℕ, ◌+◌, ◌*◌, cond, ◌⊎◌, List, length, Ok, Err, ◌==◌}
 use Rattle.values.specs.Levels.{level_unpacked}
 use Rattle.values.specs.Timings.{timing_unpacked}
 use Rattle.image.specs.Faults.{Verdict, whole_blocks, image_check, refusal_number}

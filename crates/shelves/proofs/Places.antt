@@ -1,5 +1,5 @@
 -- Rows by their places: what is read there, and what a write leaves.
-use Rattle.std.proofs.Common.{◌≡◌, ℕ, zero, suc, ◌+◌, ◌<◌, ◌≤◌, Bool, cond, ltb, List, [], ◌∷◌, map, length, get_or, drop, set, Some, None, Ok, Err, Result, sym, refl, ap, ◌∙◌, arith, length-drop, le-ltb, lt-ltb}
+use Rattle.std.proofs.Common.{◌≡◌, ℕ, zero, suc, ◌+◌, ◌<◌, ◌≤◌, Bool, cond, List, [], ◌∷◌, map, length, get_or, drop, set, Some, None, Ok, Err, Result, sym, refl, ap, ◌∙◌, arith, length-drop, le-ltb, lt-ltb}
 use Rattle.std.specs.List.{slice_get}
 use Rattle.std.proofs.lemmas.List.{length-map, map-set, set_past}
 use Rattle.std.proofs.lemmas.Option.{slice_get_past, slice_get-get_or}

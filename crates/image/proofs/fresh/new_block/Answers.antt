@@ -1,4 +1,4 @@
-use Rattle.std.proofs.Common.{ℕ, List, sym, subst, rules}
+use Rattle.std.proofs.Common.{sym, subst, rules}
 use Rattle.image.specs.Sound.{BlockOf}
 use Rattle.image.proofs.NewImage.{new_block_of}
 use Rattle.image.proofs.fresh.new_block.Goals as goal

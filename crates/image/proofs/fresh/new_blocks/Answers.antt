@@ -1,4 +1,4 @@
-use Rattle.std.proofs.Common.{◌≡◌, ℕ, ◌/◌, true, length, ap, ◌∙◌, arith, rules}
+use Rattle.std.proofs.Common.{ℕ, ◌/◌, ap, ◌∙◌, arith, rules}
 use Rattle.image.specs.Faults.{whole_blocks}
 use Rattle.image.proofs.NewImage.{block_made}
 use Rattle.image.proofs.Sound.{blocks_image}

@@ -1,4 +1,3 @@
-use Rattle.std.proofs.Common.{ap, ◌∙◌}
 use Rattle.shelves.proofs.Places.{some_read, none_past, nth_map_some, nth_map_none}
 use Rattle.shelves.proofs.table.value_at.Goals as goal
 

@@ -2,7 +2,6 @@ use Rattle.std.proofs.Common.{length, sym, refl, ap, ◌∙◌}
 use Rattle.std.proofs.lemmas.Result.{err_from_is_err_and}
 use Rattle.rules.specs.declared.Answer.TheVariants.{Number}
 use Rattle.rules.specs.declared.Call.TheVariants.{Begin}
-use Rattle.locks.specs.View.{stamp_at}
 use Rattle.engine.specs.View.{view, drafts_of, show_of, records_of}
 use Rattle.engine.proofs.Steps.{true_not_false, refused_step, handed_on, admission_of, accepted_step}
 use Rattle.engine.proofs.Starts.{begun}

@@ -8,7 +8,7 @@ use Rattle.locks.specs.View.{stations_with, active_at}
 use Rattle.locks.specs.Changes.{change, freed}
 use Rattle.engine.specs.View.{view, drafts_of, show_of, records_of, table_from}
 use Rattle.engine.specs.Promoting.{Served}
-use Rattle.engine.proofs.Steps.{refused_naming, accepted_naming, handed_on, admission_of, true_not_false, kept_same, kept_both}
+use Rattle.engine.proofs.Steps.{refused_naming, accepted_naming, handed_on, admission_of, true_not_false, kept_same}
 use Rattle.engine.specs.Answers.{Kept}
 use Rattle.engine.proofs.Commits.{commit_below, commit_refusal, may_name, commit_accepted, committed_number, committed_table}
 use Rattle.engine.proofs.core.Engine.commit.Goals as goal

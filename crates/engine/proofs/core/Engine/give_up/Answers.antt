@@ -1,4 +1,4 @@
-use Rattle.std.proofs.Common.{◌≡◌, ℕ, ◌<◌, not, ◌&&◌, eqb, length, sym, refl, ap, ◌∙◌, subst, arith}
+use Rattle.std.proofs.Common.{ℕ, ◌<◌, not, ◌&&◌, eqb, length, sym, refl, ap, ◌∙◌, subst, arith}
 use Rattle.rules.specs.Searches.{count_below}
 use Rattle.rules.specs.Operations.{wound, wounded_by_give_up, settle}
 use Rattle.std.proofs.lemmas.Result.{err_from_is_err_and}

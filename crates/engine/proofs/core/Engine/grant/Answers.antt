@@ -1,4 +1,4 @@
-use Rattle.std.proofs.Common.{◌≡◌, sym, refl, ap, ◌∙◌, arith}
+use Rattle.std.proofs.Common.{sym, ap, ◌∙◌, arith}
 use Rattle.locks.specs.declared.table.LockTable.{LockTable}
 use Rattle.locks.specs.View.{stations_with}
 use Rattle.locks.specs.Changes.{change, granted}

@@ -1,9 +1,7 @@
-use Rattle.std.proofs.Common.{◌≡◌, ℕ, length, Some, sym, refl, ap, ◌∙◌, subst}
+use Rattle.std.proofs.Common.{length, Some, sym, refl, ap, ◌∙◌}
 use Rattle.std.proofs.lemmas.Result.{err_from_is_err_and}
 use Rattle.rules.specs.declared.Answer.TheVariants.{Value}
 use Rattle.rules.specs.declared.Call.TheVariants.{Look}
-use Rattle.rules.specs.Operations.{before, or_else}
-use Rattle.locks.specs.View.{stations_with}
 use Rattle.locks.specs.Admission.{refusal_in}
 use Rattle.engine.specs.View.{view, drafts_of, show_of, records_of}
 use Rattle.engine.proofs.Steps.{refused_step, accepted_step}

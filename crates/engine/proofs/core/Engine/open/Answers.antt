@@ -1,4 +1,4 @@
-use Rattle.std.proofs.Common.{◌≡◌, [], refl, ap, ◌∙◌}
+use Rattle.std.proofs.Common.{[], refl, ap, ◌∙◌}
 use mathlib.Core.Path.{fun_ext}
 use Rattle.locks.specs.View.{stations_with}
 use Rattle.locks.proofs.ChangedViews.{new_view}

@@ -1,5 +1,4 @@
-use Rattle.std.proofs.Common.{◌≡◌, ℕ, ◌<◌, ◌≤◌, Bool, true, false, cond, leb, Some, None, Err, Option, sym, refl, ap, subst}
-use Rattle.rules.specs.declared.Refusal.{Refusal}
+use Rattle.std.proofs.Common.{◌<◌, ◌≤◌, Err, refl, ap, subst}
 use Rattle.rules.specs.declared.Refusal.TheVariants.{Record}
 use Rattle.rules.specs.declared.Answer.TheVariants.{Value}
 use Rattle.rules.specs.declared.Call.TheVariants.{Plotted}

@@ -1,4 +1,4 @@
-use Rattle.std.proofs.Common.{◌≡◌, length, Some, sym, refl, ap, ◌∙◌}
+use Rattle.std.proofs.Common.{length, Some, sym, refl, ap, ◌∙◌}
 use Rattle.std.proofs.lemmas.Result.{err_from_is_err_and}
 use Rattle.rules.specs.declared.Answer.TheVariants.{Number}
 use Rattle.rules.specs.declared.Call.TheVariants.{Retire}

@@ -1,4 +1,4 @@
-use Rattle.std.proofs.Common.{◌≡◌, ◌+◌, ◌-◌, sym, refl, ap, ◌∙◌, arith}
+use Rattle.std.proofs.Common.{◌+◌, ◌-◌, sym, ap, ◌∙◌, arith}
 use Rattle.rules.specs.Operations.{grant}
 use Rattle.engine.specs.View.{drafts_of, show_of, stations_of}
 use Rattle.engine.proofs.Grants.{promote_within, promote_round, promote_done, promote_over, promote_all, one_fewer, stations_both}

@@ -1,4 +1,4 @@
-use Rattle.std.proofs.Common.{◌≡◌, ◌<◌, length, refl, ap, ◌∙◌, length-set, rules}
+use Rattle.std.proofs.Common.{◌<◌, length, refl, ap, ◌∙◌, length-set, rules}
 use Rattle.rules.specs.Operations.{draft_for}
 use Rattle.engine.proofs.Grants.{row_fits, draft_started, draft_unseen}
 use Rattle.engine.proofs.core.Engine.start_draft.Goals as goal

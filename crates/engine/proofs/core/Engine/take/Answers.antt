@@ -1,9 +1,9 @@
-use Rattle.std.proofs.Common.{◌≡◌, length, Some, sym, refl, ap, ◌∙◌}
+use Rattle.std.proofs.Common.{length, sym, refl, ap, ◌∙◌}
 use Rattle.std.proofs.lemmas.Result.{err_from_is_err_and}
 use Rattle.rules.specs.declared.Call.TheVariants.{Take}
 use Rattle.engine.specs.View.{view, drafts_of, show_of, records_of, table_from}
 use Rattle.engine.specs.Answers.{taken}
-use Rattle.engine.proofs.Steps.{refused_step, accepted_step, refusal_of, admission_of, handed_on, true_not_false, kept_same}
+use Rattle.engine.proofs.Steps.{refused_step, accepted_step, admission_of, handed_on, true_not_false, kept_same}
 use Rattle.engine.proofs.Takes.{take_refusal, take_accepted, taken_table, taken_answer}
 use Rattle.engine.proofs.core.Engine.take.Goals as goal
 

@@ -1,4 +1,4 @@
-use Rattle.std.proofs.Common.{◌≡◌, sym, refl, ap, ◌∙◌}
+use Rattle.std.proofs.Common.{ap, ◌∙◌}
 use Rattle.rules.specs.Operations.{settle}
 use Rattle.engine.specs.View.{drafts_of, show_of}
 use Rattle.engine.proofs.GivesUp.{withdrawn_view, withdrawn_served, others_counted}

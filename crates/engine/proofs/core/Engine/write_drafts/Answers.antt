@@ -1,4 +1,4 @@
-use Rattle.std.proofs.Common.{◌≡◌, ℕ, ◌<◌, get_or, sym, refl, ap, ◌∙◌, subst, arith}
+use Rattle.std.proofs.Common.{◌≡◌, ℕ, ◌<◌, get_or, ap, ◌∙◌, subst, arith}
 use Rattle.locks.specs.declared.table.LockTable.{LockTable}
 use Rattle.locks.specs.View.{no_station}
 use Rattle.locks.specs.Asked.{hold_at}

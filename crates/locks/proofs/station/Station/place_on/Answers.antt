@@ -1,4 +1,4 @@
-use Rattle.std.proofs.Common.{◌≡◌, ℕ, ◌+◌, ◌-◌, sym, ap, ◌∙◌, arith}
+use Rattle.std.proofs.Common.{◌≡◌, ◌+◌, ◌-◌, sym, ap, ◌∙◌, arith}
 use Rattle.locks.specs.View.{place_on}
 use Rattle.locks.proofs.Hands.{place_here, place_other}
 use Rattle.locks.proofs.station.Station.place_on.Goals as goal

@@ -1,6 +1,5 @@
 use Rattle.std.proofs.Common.{leb, get_or, Some, None, Ok, sym, ap, ◌∙◌}
 use Rattle.std.proofs.lemmas.Bool.{le-leb, lt-leb, cond-true, cond-false}
-use Rattle.rules.specs.declared.Refusal.{Refusal}
 use Rattle.rules.specs.declared.Refusal.TheVariants as refusal
 use Rattle.locks.specs.View.{no_station}
 use Rattle.locks.specs.Admission.{admitted}

@@ -1,4 +1,4 @@
-use Rattle.std.proofs.Common.{◌≡◌, sym, ◌∙◌}
+use Rattle.std.proofs.Common.{sym, ◌∙◌}
 use Rattle.rules.specs.Searches.{any_below}
 use Rattle.rules.proofs.Searches.{any_below_from}
 use Rattle.rules.specs.Operations.{blocks}
