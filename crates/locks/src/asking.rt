@@ -67,26 +67,14 @@ impl Station {
     pub(crate) fn waits(&self) -> bool
         ensures { result ≡ is_waiting (phase_of self.now.phase) }
     {
-        let phase = self.phase;
-        match phase {
-            Phase::Idle => false,
-            Phase::Running(_) => false,
-            Phase::Waiting(_, _, _) => true,
-            Phase::Wounded(_) => false,
-        }
+        matches!(self.phase, Phase::Waiting(..))
     }
 
     // Whether the attempt was wounded.
     pub(crate) fn is_wounded(&self) -> bool
         ensures { result ≡ is_wounded (phase_of self.now.phase) }
     {
-        let phase = self.phase;
-        match phase {
-            Phase::Idle => false,
-            Phase::Running(_) => false,
-            Phase::Waiting(_, _, _) => false,
-            Phase::Wounded(_) => true,
-        }
+        matches!(self.phase, Phase::Wounded(_))
     }
 
     // What the station waits for, if it waits.

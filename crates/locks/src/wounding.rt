@@ -26,13 +26,13 @@ pub fn count(members: &[bool; 16]) -> u32
 pub fn count_without(members: &[bool; 16], others: &[bool; 16]) -> u32
     ensures { result ≡ count_below 16 (λ j. member_of members.now j && not (member_of others.now j)) }
 {
-    let mut n = 0;
+    let mut left = 0;
     for i in 0..16usize {
         if members[i] & !others[i] {
-            n += 1;
+            left += 1;
         }
     }
-    n
+    left
 }
 
 // The set of station s alone; nobody where s is no station.

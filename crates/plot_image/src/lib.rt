@@ -70,8 +70,7 @@ fn number_of(found: Result<(), Fault>) -> u32
 }
 
 // 0, or the number of the first fault.
-#[unsafe(no_mangle)]
-pub extern "C" fn plot_image_check(bytes: &[u8], kind: u32) -> u32
+pub fn plot_image_check(bytes: &[u8], kind: u32) -> u32
     ensures answer { result ≡ host_number (host_check kind bytes.now) }
     ensures passes { result ≡ 0 → SoundOf kind bytes.now }
     ensures only { SoundOf kind bytes.now → result ≡ 0 }

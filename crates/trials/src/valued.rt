@@ -1,7 +1,7 @@
 // The two kinds at their limits, and the byte that a refusal names.
 use values::kind::Kind;
-use values::level::{Level, LevelChange};
-use values::timing::{Timing, TimingChange};
+use values::level::{Level, LevelChange, Levels};
+use values::timing::{TimingChange, Timings};
 
 fn with(mut bytes: [u8; 16], at: usize, byte: u8) -> [u8; 16] {
     if at < 16 {
@@ -12,54 +12,51 @@ fn with(mut bytes: [u8; 16], at: usize, byte: u8) -> [u8; 16] {
 
 #[test]
 fn levels_stop_at_their_limits(rt: HostRuntime) {
-    let home = LevelKind::home();
+    let home = Levels::home();
     assert_eq!(rt; home.value, 0);
-    let high = LevelKind::apply(home, LevelChange::Set(65_000));
-    assert_eq!(rt; LevelKind::apply(high, LevelChange::Up(535)).value, 65_535);
-    assert_eq!(rt;
-        LevelKind::apply(high, LevelChange::Up(65_535)).value,
-        65_535
-    );
-    assert_eq!(rt; LevelKind::apply(high, LevelChange::Down(65_000)).value, 0);
-    assert_eq!(rt; LevelKind::apply(high, LevelChange::Down(65_535)).value, 0);
+    let high = Levels::apply(home, LevelChange::Set(65_000));
+    assert_eq!(rt; Levels::apply(high, LevelChange::Up(535)).value, 65_535);
+    assert_eq!(rt; Levels::apply(high, LevelChange::Up(65_535)).value, 65_535);
+    assert_eq!(rt; Levels::apply(high, LevelChange::Down(65_000)).value, 0);
+    assert_eq!(rt; Levels::apply(high, LevelChange::Down(65_535)).value, 0);
 }
 
 #[test]
 fn levels_pack_little_endian(rt: HostRuntime) {
     let v = Level { value: 0x1234 };
-    let bytes = LevelKind::pack(v);
+    let bytes = Levels::pack(v);
     assert_eq!(rt; bytes[0], 0x34);
     assert_eq!(rt; bytes[1], 0x12);
-    assert_eq!(rt; LevelKind::unpack(bytes), Ok(v));
+    assert_eq!(rt; Levels::unpack(bytes), Ok(v));
     for k in 2..16u8 {
-        assert_eq!(rt; LevelKind::unpack(with(bytes, k as usize, 1)), Err(k));
+        assert_eq!(rt; Levels::unpack(with(bytes, k as usize, 1)), Err(k));
     }
 }
 
 #[test]
 fn timings_stop_at_an_hour(rt: HostRuntime) {
-    let home = TimingKind::home();
+    let home = Timings::home();
     assert_eq!(rt;
-        TimingKind::apply(home, TimingChange::FadeUp(36_001)).up,
+        Timings::apply(home, TimingChange::FadeUp(36_001)).up,
         36_000
     );
     assert_eq!(rt;
-        TimingKind::apply(home, TimingChange::FadeDown(36_000)).down,
+        Timings::apply(home, TimingChange::FadeDown(36_000)).down,
         36_000
     );
     assert_eq!(rt;
-        TimingKind::apply(home, TimingChange::Wait(65_535)).wait,
+        Timings::apply(home, TimingChange::Wait(65_535)).wait,
         36_000
     );
-    let linked = TimingKind::apply(home, TimingChange::Link(1));
-    assert_eq!(rt; TimingKind::apply(linked, TimingChange::Link(3)), linked);
-    assert_ne!(rt; TimingKind::apply(linked, TimingChange::Link(2)), linked);
+    let linked = Timings::apply(home, TimingChange::Link(1));
+    assert_eq!(rt; Timings::apply(linked, TimingChange::Link(3)), linked);
+    assert_ne!(rt; Timings::apply(linked, TimingChange::Link(2)), linked);
 }
 
 #[test]
 fn timings_name_the_first_bad_byte(rt: HostRuntime) {
-    let home = TimingKind::pack(TimingKind::home());
-    assert_eq!(rt; TimingKind::unpack(home), Ok(TimingKind::home()));
+    let home = Timings::pack(Timings::home());
+    assert_eq!(rt; Timings::unpack(home), Ok(Timings::home()));
     for (at, byte, named) in [
         (1usize, 141u8, 0u8),
         (3, 255, 2),
@@ -68,6 +65,6 @@ fn timings_name_the_first_bad_byte(rt: HostRuntime) {
         (7, 1, 7),
         (15, 9, 15),
     ] {
-        assert_eq!(rt; TimingKind::unpack(with(home, at, byte)), Err(named));
+        assert_eq!(rt; Timings::unpack(with(home, at, byte)), Err(named));
     }
 }

@@ -9,8 +9,8 @@ pub loop-i-preserved : goal.loop-i-preserved
 loop-i-preserved c =
     let p : ℕ → Bool = λ j. member_of c.args.members.now j && not (member_of c.args.others.now j) in
     elim c.if-members-i.branch [
-      | then-members-i w ↦ (let e = count_passes p c.loop-i.i w.if-members-i.true in (omega (arith, w.n-is), omega (arith, e, w.n-is)))
-      | else-members-i w ↦ (let e = count_fails p c.loop-i.i w.if-members-i.false in (omega (arith, w.n-is), omega (arith, e, w.n-is)))
+      | then-members-i w ↦ (let e = count_passes p c.loop-i.i w.if-members-i.true in (omega (arith, w.left-is), omega (arith, e, w.left-is)))
+      | else-members-i w ↦ (let e = count_fails p c.loop-i.i w.if-members-i.false in (omega (arith, w.left-is), omega (arith, e, w.left-is)))
     ]
 
 pub returns : goal.returns
