@@ -1,6 +1,6 @@
 // Lists of calls in plain numbers, played on a new engine.
 use crate::coded::{AnswerNumbers, CallNumbers, Coded, call_of, numbers_of_answer};
-use engine::core::Engine;
+use engine::Engine;
 use image::shelf::BlockShelf;
 use shelves::shelf::Shelf;
 use shelves::table::Table;

@@ -1,5 +1,5 @@
 // What retiring buys, counted in rounds: in each round every station that does not wait makes one call.
-use engine::core::Engine;
+use engine::Engine;
 use rules::{Answer, Call, Mode, State};
 use shelves::shelf::Shelf;
 use shelves::table::Table;

@@ -18,7 +18,7 @@ use Rattle.locks.proofs.Drafts.{grantable_same}
 use Rattle.locks.proofs.Kept.{room_at}
 use Rattle.locks.proofs.ChangedViews.{drafts_beyond, granted_by_rules}
 use Rattle.engine.specs.View.{drafts_of}
-use Rattle.engine.specs.declared.core.Engine.{Engine}
+use Rattle.engine.specs.declared.Engine.{Engine}
 use Rattle.engine.specs.Promoting.{Served, OnlyStations}
 use Rattle.engine.proofs.RowsRead.{draft_written, draft_other}
 

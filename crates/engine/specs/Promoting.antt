@@ -3,7 +3,7 @@ use Rattle.std.specs.Prelude.{◌≡◌, ℕ, List, length, Some}
 use Rattle.rules.specs.declared.Mode.{Mode}
 use Rattle.locks.specs.declared.station.Station.{Station}
 use Rattle.locks.specs.View.{awaited_at}
-use Rattle.engine.specs.declared.core.Engine.{Engine}
+use Rattle.engine.specs.declared.Engine.{Engine}
 use Rattle.engine.specs.Answers.{Kept}
 
 -- where some station waits, the drafts have the rows for every hold

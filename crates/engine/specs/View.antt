@@ -7,7 +7,7 @@ use Rattle.locks.specs.View.{no_hold, no_station, stations_with}
 use Rattle.locks.specs.Asked.{hold_at}
 use Rattle.locks.specs.declared.table.LockTable.{LockTable}
 use Rattle.locks.specs.Admission.{table_with}
-use Rattle.engine.specs.declared.core.Engine.{Engine}
+use Rattle.engine.specs.declared.Engine.{Engine}
 
 -- the show has 1 to 1,984 records and the drafts 256 rows
 abbrev pub fits : ℕ → ℕ → Bool

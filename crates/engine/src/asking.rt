@@ -5,7 +5,7 @@ ghost use Rattle.rules.specs.declared.Call.TheVariants.{Standing as StandingCall
 ghost use Rattle.engine.specs.View.{view};
 ghost use Rattle.engine.specs.Answers.{as_answer, Ruled};
 
-use crate::core::Engine;
+use crate::Engine;
 use rules::{Refusal, Standing};
 use shelves::shelf::Shelf;
 use values::kind::Kind;

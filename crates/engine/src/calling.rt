@@ -5,7 +5,7 @@ ghost use Rattle.rules.specs.Orderly.{Orderly};
 ghost use Rattle.engine.specs.View.{view};
 ghost use Rattle.engine.specs.Answers.{as_answer, taken as taken-by-rules, RuledNaming, Kept};
 
-use crate::core::Engine;
+use crate::Engine;
 use rules::{Answer, Call, Outcome, Refusal, Standing};
 use shelves::shelf::Shelf;
 use values::kind::Kind;

@@ -7,7 +7,7 @@ ghost use Rattle.locks.specs.View.{stations_with};
 ghost use Rattle.engine.specs.View.{view, show_of, drafts_of, own_draft};
 ghost use Rattle.engine.specs.Answers.{as_answer, Ruled, Kept};
 
-use crate::core::Engine;
+use crate::Engine;
 use rules::{Mode, Refusal};
 use shelves::shelf::Shelf;
 use values::kind::Kind;

@@ -12,7 +12,7 @@ ghost use Rattle.engine.specs.View.{show_of, drafts_of, stations_of, with_draft,
 ghost use Rattle.engine.specs.Answers.{as_answer, Ruled, RuledNaming, Kept};
 ghost use Rattle.engine.specs.Promoting.{Served, OnlyStations};
 
-use crate::core::Engine;
+use crate::Engine;
 use locks::wounding::{alone, count_without};
 use rules::{Mode, Refusal};
 use shelves::shelf::Shelf;

@@ -3,7 +3,7 @@ ghost use Rattle.std.specs.Prelude.{◌≡◌, ◌<◌, length};
 ghost use Rattle.rules.specs.Calls.{opened};
 ghost use Rattle.engine.specs.View.{fit_number, records_of, show_of, drafts_of, view, SameTable};
 
-use crate::core::Engine;
+use crate::Engine;
 use locks::table::LockTable;
 use shelves::shelf::Shelf;
 use std::marker::PhantomData;

@@ -5,7 +5,7 @@ ghost use Rattle.locks.specs.View.{awaited_at, no_station};
 ghost use Rattle.engine.specs.View.{show_of, drafts_of, stations_of};
 ghost use Rattle.engine.specs.Promoting.{Served, OnlyStations};
 
-use crate::core::Engine;
+use crate::Engine;
 use locks::table::LockTable;
 use rules::Mode;
 use shelves::shelf::Shelf;

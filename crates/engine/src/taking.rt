@@ -8,7 +8,7 @@ ghost use Rattle.locks.specs.View.{bare};
 ghost use Rattle.engine.specs.View.{view};
 ghost use Rattle.engine.specs.Answers.{as_answer, taken, Ruled, Kept};
 
-use crate::core::Engine;
+use crate::Engine;
 use locks::wounding::{count, count_without};
 use rules::{Mode, Outcome, Refusal};
 use shelves::shelf::Shelf;

@@ -1,6 +1,6 @@
 -- The ordered part: predecessors are at work or committed, and commit first.
 use Rattle.std.proofs.Common.{◌≡◌, ℕ, zero, suc, ◌<◌, Bool, true, false, cond, ◌&&◌, ◌||◌, eqb, ◌⊎◌, List, [], ◌∷◌, Some, None, Option, sym, refl, ap, ◌∙◌, inl, inr}
-use Rattle.std.specs.List.{AllByRecursion as All}
+use Rattle.std.specs.List.{AllByRecursion}
 use Rattle.std.proofs.ByRecursion.{All-append, All-weaker}
 use Rattle.std.proofs.lemmas.Bool.{eqb-true, eq-eqb, both_ways, or_left, or_right, and_parts, and_from, ltb-true}
 use Rattle.rules.specs.declared.Mode.{Mode}
@@ -34,7 +34,7 @@ module _ {V C : Type 0} where
   -- all predecessors are so, and those of committed attempts were committed before them
   pub record InOrder (t : Stations V) (o : Observation V C) : Type 0 where
     pub committed_in_order : CommittedInOrder o.committed
-    pub precede : (i : ℕ) → works (t i).phase ≡ true → All (λ p. Precedes t o i p) (o.attempts i).predecessors
+    pub precede : (i : ℕ) → works (t i).phase ≡ true → AllByRecursion (λ p. Precedes t o i p) (o.attempts i).predecessors
 
   -- who is committed stays so
   still_committed : (p : ℕ) (ev : Event V C) (k : Option ℕ) (attempts : ℕ → Attempt V C) (committed : List (Attempt V C))
@@ -183,25 +183,25 @@ module _ {V C : Type 0} (apply : V → C → V) (t t' : Table V) (o : Observatio
 
   -- those that hold the record at its grant precede
   holders_precede : (i r : ℕ) (k : Hold V) → works (t'.stations i).phase ≡ true → hold_on r (t'.stations i).hand ≡ Some k
-      → (n : ℕ) → All (λ p. Precedes t'.stations after_it i p) (older_holders w' (heard w c w' o) i r n)
+      → (n : ℕ) → AllByRecursion (λ p. Precedes t'.stations after_it i p) (older_holders w' (heard w c w' o) i r n)
   holders_precede i r k b f zero = tt
   holders_precede i r k b f (suc n) = go (older_than w' n i && exclusively ((heard w c w' o n).held r)) refl
       (holders_precede i r k b f n)
     where
       go : (y : Bool) → (older_than w' n i && exclusively ((heard w c w' o n).held r)) ≡ y
-          → All (λ p. Precedes t'.stations after_it i p) (older_holders w' (heard w c w' o) i r n)
-          → All (λ p. Precedes t'.stations after_it i p) (cond y ((heard w c w' o n).number ∷ older_holders w' (heard w c w' o) i r n) (older_holders w' (heard w c w' o) i r n))
+          → AllByRecursion (λ p. Precedes t'.stations after_it i p) (older_holders w' (heard w c w' o) i r n)
+          → AllByRecursion (λ p. Precedes t'.stations after_it i p) (cond y ((heard w c w' o n).number ∷ older_holders w' (heard w c w' o) i r n) (older_holders w' (heard w c w' o) i r n))
       go true q ih = let p = and_parts (older_than w' n i) (exclusively ((heard w c w' o n).held r)) q in
           (inr (n, holder_ahead i r n k b f p.0 p.1), ih)
       go false q ih = ih
 
   -- the predecessors that a call adds precede
   added_precede : (i : ℕ) → works (t'.stations i).phase ≡ true
-      → All (λ p. Precedes t'.stations after_it i p) (predecessors_at w' (heard w c w' o) i (grant_of i))
+      → AllByRecursion (λ p. Precedes t'.stations after_it i p) (predecessors_at w' (heard w c w' o) i (grant_of i))
   added_precede i b = go (grant_of i) refl
     where
       go : (p : Option (ℕ × Mode)) → grant_of i ≡ p
-          → All (λ p. Precedes t'.stations after_it i p) (predecessors_at w' (heard w c w' o) i p)
+          → AllByRecursion (λ p. Precedes t'.stations after_it i p) (predecessors_at w' (heard w c w' o) i p)
       go None q = tt
       go (Some (r, m)) q =
           let held : (heard w c w' o i).held r ≡ Some m = ap (λ (x : Attempt V C). x.held r) (heard_at_work i b) ∙ granted_held
@@ -251,7 +251,7 @@ module _ {V C : Type 0} (apply : V → C → V) (t t' : Table V) (o : Observatio
 
   -- the predecessors of an attempt at work precede
   precede_after : (i : ℕ) → works (t'.stations i).phase ≡ true
-      → All (λ p. Precedes t'.stations after_it i p) (after_it.attempts i).predecessors
+      → AllByRecursion (λ p. Precedes t'.stations after_it i p) (after_it.attempts i).predecessors
   unfolding observe
   precede_after i b =
       All-append (λ p. Precedes t'.stations after_it i p) (predecessors_at w' (heard w c w' o) i (grant_of i))
@@ -262,7 +262,7 @@ module _ {V C : Type 0} (apply : V → C → V) (t t' : Table V) (o : Observatio
           (after_event (suc o.started) (event c (w c) i) (o.attempts i))).1
 
       old : (y : Bool) → is_start (event c a i) ≡ y
-          → All (λ p. Precedes t'.stations after_it i p) (heard w c w' o i).predecessors
+          → AllByRecursion (λ p. Precedes t'.stations after_it i p) (heard w c w' o i).predecessors
       old true q = rw (same ∙ start_no_predecessors (suc o.started) (event c (w c) i) (o.attempts i) (rw e q)) tt
       old false q =
           let on = endings.goes_on i b q in
@@ -299,7 +299,7 @@ module _ {V C : Type 0} (apply : V → C → V) (t t' : Table V) (o : Observatio
 -- what is in order is ordered, as the law has it
 pub ordered_from : {V C : Type 0} {w : View V C} {t : Table V} → Tells w t → Invariant t.stations t.next_stamp t.records
     → (o : Observation V C) → InOrder t.stations o → (i : ℕ) → at_work w i ≡ true
-    → All (λ p. (attempt_at_work w o.attempts p || is_committed p o.committed) ≡ true) (o.attempts i).predecessors
+    → AllByRecursion (λ p. (attempt_at_work w o.attempts p || is_committed p o.committed) ≡ true) (o.attempts i).predecessors
 ordered_from {V} {C} {w} {t} tells v o order i b =
     All-weaker (λ p. Precedes t.stations o i p)
     (λ p. (attempt_at_work w o.attempts p || is_committed p o.committed) ≡ true) by (o.attempts i).predecessors

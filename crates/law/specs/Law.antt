@@ -1,7 +1,7 @@
 -- The law of runs. An engine that is new at the first call receives any list of calls; after every call, refused or not, it is
 -- serial, ordered and live. The law speaks of calls, answers and what an observer reads off them, and of nothing else.
 use Rattle.std.specs.Prelude.{◌≡◌, ℕ, suc, true, false, ◌||◌, List, [], ◌∷◌, length, None, ◌≢◌}
-use Rattle.std.specs.List.{AllByRecursion as All}
+use Rattle.std.specs.List.{AllByRecursion}
 use Rattle.rules.specs.declared.State.TheVariants.{Running, Wounded}
 use Rattle.rules.specs.declared.Call.{Call}
 use Rattle.rules.specs.declared.Call.TheVariants.{Commit, Standing, Plotted}
@@ -26,7 +26,7 @@ pub record Serial {V C : Type 0} (apply : V → C → V) (e : Engine V C) (h : L
 -- each predecessor of a committed attempt was committed before it; the newest comes first
 abbrev pub CommittedInOrder : {V C : Type 0} → List (Attempt V C) → Type 0
 CommittedInOrder [] = Unit {0}
-CommittedInOrder (a ∷ earlier) = CommittedInOrder earlier × All (λ p. is_committed p earlier ≡ true) a.predecessors
+CommittedInOrder (a ∷ earlier) = CommittedInOrder earlier × AllByRecursion (λ p. is_committed p earlier ≡ true) a.predecessors
 
 -- Ordered: an attempt granted a record that an older one holds exclusively commits only after that one; if the older one ends
 -- uncommitted, the attempt too has ended so when that call returns
@@ -36,7 +36,7 @@ pub record Ordered {V C : Type 0} (e : Engine V C) (h : List (Call C)) : Type 0 
   -- each predecessor of an attempt at work is at work or committed: once one has ended uncommitted, the attempt is not at work, nor, by
   -- the clause above, committed
   pub predecessors_stand : (i : ℕ) → at_work (e h) i ≡ true
-      → All (λ p. (attempt_at_work (e h) (observed e h).attempts p || is_committed p (observed e h).committed) ≡ true) ((observed e h).attempts i).predecessors
+      → AllByRecursion (λ p. (attempt_at_work (e h) (observed e h).attempts p || is_committed p (observed e h).committed) ≡ true) ((observed e h).attempts i).predecessors
 
 -- Live: the oldest attempt at work, if there is one, can always go on
 pub record Live {V C : Type 0} (e : Engine V C) (h : List (Call C)) : Type 0 where

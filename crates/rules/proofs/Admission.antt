@@ -1,6 +1,6 @@
 -- What a call that is not refused may rely on.
 use Rattle.std.proofs.Common.{◌≡◌, ℕ, ◌<◌, Bool, true, false, cond, not, List, [], ◌∷◌, length, is_some, Some, None, Option, refl, ap, arith}
-use Rattle.std.specs.List.{AllByRecursion as All}
+use Rattle.std.specs.List.{AllByRecursion}
 use Rattle.std.proofs.lemmas.Bool.{ltb-false, leb-false, not-false}
 use Rattle.rules.specs.declared.Mode.{Mode}
 use Rattle.rules.specs.declared.Refusal.{Refusal}
@@ -14,12 +14,12 @@ use Rattle.rules.specs.Calls.{owns, only_shared, refusals, first_refusal, after,
 use Rattle.rules.proofs.Searches.{contradiction}
 
 -- if no refusal is given, each test fails
-pub all_tests_fail : (l : List (Bool × Refusal)) → first_refusal l ≡ None → All (λ p. p.0 ≡ false) l
+pub all_tests_fail : (l : List (Bool × Refusal)) → first_refusal l ≡ None → AllByRecursion (λ p. p.0 ≡ false) l
 all_tests_fail [] e = tt
 all_tests_fail (p ∷ ps) e = go p.0 refl e (all_tests_fail ps)
   where
     go : (b : Bool) → p.0 ≡ b → cond b (Some p.1) (first_refusal ps) ≡ None
-        → (first_refusal ps ≡ None → All (λ p. p.0 ≡ false) ps) → (p.0 ≡ false) × All (λ p. p.0 ≡ false) ps
+        → (first_refusal ps ≡ None → AllByRecursion (λ p. p.0 ≡ false) ps) → (p.0 ≡ false) × AllByRecursion (λ p. p.0 ≡ false) ps
     go true q e ih = contradiction true refl (cc)
     go false q e ih = (q, ih e)
 

@@ -6,7 +6,7 @@ ghost use Rattle.engine.specs.Answers.{Kept};
 ghost use Rattle.runs.specs.LawfulRun.{call_of, LawfulRun};
 
 use crate::played::Played;
-use engine::core::Engine;
+use engine::Engine;
 use shelves::shelf::Shelf;
 use values::kind::Kind;
 

@@ -1,5 +1,5 @@
 // The engine at its limits: which shelves fit, station and record numbers, and the first stamps.
-use engine::core::Engine;
+use engine::Engine;
 use engine::fitting::fit;
 use rules::Refusal;
 use shelves::shelf::Shelf;
