@@ -6,7 +6,7 @@ use Rattle.rules.specs.declared.Mode.{Mode}
 use Rattle.rules.specs.Searches.{first_below, until}
 use Rattle.rules.specs.Tables as rules
 use Rattle.rules.specs.Tables.{Stations, put}
-use Rattle.rules.specs.Operations as rules-of
+use Rattle.rules.specs.Operations as rules_of
 use Rattle.rules.specs.Operations.{before, draft_for, grantable, grant, promote}
 use Rattle.locks.specs.declared.station.Phase.{Phase}
 use Rattle.locks.specs.declared.station.Phase.TheVariants.{Idle, Running, Waiting, Wounded}
@@ -100,9 +100,9 @@ module _ {V : Type 0} (these those : ℕ → ℕ → V) (show : ℕ → V) (t : 
       u = stations_with these t.stations
 
       x : rules.Station V
-      x = rules-of.granted_in (before u show s) (u s) (u s).phase
+      x = rules_of.granted_in (before u show s) (u s) (u s).phase
 
-      go : (p : Phase) → None ≡ awaited_in p → rules-of.granted_in (before u show s) (u s) (phase_of p) ≡ u s
+      go : (p : Phase) → None ≡ awaited_in p → rules_of.granted_in (before u show s) (u s) (phase_of p) ≡ u s
       go Idle e = refl
       go (Running t) e = refl
       go (Waiting t r m) e = absurd (let z : ◌≡◌ {A = ℕ} 0 1 = cc in omega arith)

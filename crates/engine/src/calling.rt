@@ -3,7 +3,7 @@ ghost use Rattle.std.specs.Prelude.{◌≡◌};
 ghost use Rattle.rules.specs.declared.Answer.TheVariants.{Number, Value, Committed, Stands};
 ghost use Rattle.rules.specs.Orderly.{Orderly};
 ghost use Rattle.engine.specs.View.{view};
-ghost use Rattle.engine.specs.Answers.{as_answer, taken as taken-by-rules, RuledNaming, Kept};
+ghost use Rattle.engine.specs.Answers.{as_answer, taken as taken_by_rules, RuledNaming, Kept};
 
 use crate::Engine;
 use rules::{Answer, Call, Outcome, Refusal, Standing};
@@ -32,7 +32,7 @@ fn valued<V>(r: Result<V, Refusal>) -> Answer<V>
 
 // The answer of a take.
 fn taken<V>(r: Result<(Outcome, u32), Refusal>) -> Answer<V>
-    ensures { result ≡ as_answer taken-by-rules r }
+    ensures { result ≡ as_answer taken_by_rules r }
 {
     match r {
         Ok((outcome, wounded)) => Answer::Taken(outcome, wounded),

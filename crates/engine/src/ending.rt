@@ -4,7 +4,7 @@ ghost use Rattle.rules.specs.declared.Answer.TheVariants.{Number, Committed};
 ghost use Rattle.rules.specs.declared.Call.TheVariants.{Commit, GiveUp};
 ghost use Rattle.rules.specs.Searches.{count_below};
 ghost use Rattle.rules.specs.Tables.{idle_station, put};
-ghost use Rattle.rules.specs.Operations.{wound, wounded_by_give_up, settle as settle-by-rules};
+ghost use Rattle.rules.specs.Operations.{wound, wounded_by_give_up, settle as settle_by_rules};
 ghost use Rattle.rules.specs.Orderly.{Orderly};
 ghost use Rattle.locks.specs.View.{no_station, active_at};
 ghost use Rattle.locks.specs.Asked.{hold_at};
@@ -71,7 +71,7 @@ impl<K: Kind, S: Shelf<K>, D: Shelf<K>> Engine<K, S, D> {
     fn withdraw(&mut self, s: usize) -> u32
         requires { (s < 16) × (active_at self.old.locks.stations s ≡ true) }
         ensures number { result ≡ count_below 16 (λ j. not (j == s) && wounded_by_give_up (stations_of K.Kind.home D.Shelf.rows self.old) s j) }
-        ensures stations { Served self.old.locks.stations (D.Shelf.rows self.old.drafts) → stations_of K.Kind.home D.Shelf.rows self.new ≡ settle-by-rules (show_of K.Kind.home (S.Shelf.rows self.old.show)) (put (wound (wounded_by_give_up (stations_of K.Kind.home D.Shelf.rows self.old) s) (stations_of K.Kind.home D.Shelf.rows self.old)) s idle_station) }
+        ensures stations { Served self.old.locks.stations (D.Shelf.rows self.old.drafts) → stations_of K.Kind.home D.Shelf.rows self.new ≡ settle_by_rules (show_of K.Kind.home (S.Shelf.rows self.old.show)) (put (wound (wounded_by_give_up (stations_of K.Kind.home D.Shelf.rows self.old) s) (stations_of K.Kind.home D.Shelf.rows self.old)) s idle_station) }
         ensures rest { OnlyStations D.Shelf.rows D.Shelf.memory D.Shelf.sound self.old self.new }
     {
         let own = alone(s);

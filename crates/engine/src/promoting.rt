@@ -1,6 +1,6 @@
 // Promoting: waits become holds, until no wait may be granted.
 ghost use Rattle.std.specs.Prelude.{◌≡◌, ◌<◌, length, Some, slice_index_or};
-ghost use Rattle.rules.specs.Operations.{before, draft_for, grant as grant-by-rules, settle as settle-by-rules};
+ghost use Rattle.rules.specs.Operations.{before, draft_for, grant as grant_by_rules, settle as settle_by_rules};
 ghost use Rattle.locks.specs.View.{awaited_at, no_station};
 ghost use Rattle.engine.specs.View.{show_of, drafts_of, stations_of};
 ghost use Rattle.engine.specs.Promoting.{Served, OnlyStations};
@@ -33,7 +33,7 @@ impl<K: Kind, S: Shelf<K>, D: Shelf<K>> Engine<K, S, D> {
     // Station s is granted what it waits for.
     fn grant(&mut self, s: usize)
         requires { s < 16 }
-        ensures stations { Served self.old.locks.stations (D.Shelf.rows self.old.drafts) → stations_of K.Kind.home D.Shelf.rows self.new ≡ grant-by-rules (show_of K.Kind.home (S.Shelf.rows self.old.show)) s (stations_of K.Kind.home D.Shelf.rows self.old) }
+        ensures stations { Served self.old.locks.stations (D.Shelf.rows self.old.drafts) → stations_of K.Kind.home D.Shelf.rows self.new ≡ grant_by_rules (show_of K.Kind.home (S.Shelf.rows self.old.show)) s (stations_of K.Kind.home D.Shelf.rows self.old) }
         ensures served { Served self.old.locks.stations (D.Shelf.rows self.old.drafts) → Served self.new.locks.stations (D.Shelf.rows self.new.drafts) }
         ensures rest { OnlyStations D.Shelf.rows D.Shelf.memory D.Shelf.sound self.old self.new }
     {
@@ -45,7 +45,7 @@ impl<K: Kind, S: Shelf<K>, D: Shelf<K>> Engine<K, S, D> {
 
     // Grants one wait after the other while there is one that may be granted; each station has at most one.
     pub(crate) fn settle(&mut self)
-        ensures stations { Served self.old.locks.stations (D.Shelf.rows self.old.drafts) → stations_of K.Kind.home D.Shelf.rows self.new ≡ settle-by-rules (show_of K.Kind.home (S.Shelf.rows self.old.show)) (stations_of K.Kind.home D.Shelf.rows self.old) }
+        ensures stations { Served self.old.locks.stations (D.Shelf.rows self.old.drafts) → stations_of K.Kind.home D.Shelf.rows self.new ≡ settle_by_rules (show_of K.Kind.home (S.Shelf.rows self.old.show)) (stations_of K.Kind.home D.Shelf.rows self.old) }
         ensures rest { OnlyStations D.Shelf.rows D.Shelf.memory D.Shelf.sound self.old self.new }
     {
         for _round in 0..16usize {

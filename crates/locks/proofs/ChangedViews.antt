@@ -10,7 +10,7 @@ use Rattle.rules.specs.Tables as rules
 use Rattle.rules.specs.Tables.{put, idle_station, running_station, wounded_station, waiting_station, with_hand}
 use Rattle.rules.specs.Searches.{any_below, first_below}
 use Rattle.rules.proofs.Searches.{any_below_witness, first_below_passes, until_keeps}
-use Rattle.rules.specs.Operations as rules-of
+use Rattle.rules.specs.Operations as rules_of
 use Rattle.rules.specs.Operations.{before, draft_for, granted_station, grant, wound, adjust, retired, redrafted, changed_draft, exclusive_in_common, must_yield, joins, with_member, widen}
 use Rattle.locks.specs.declared.station.Hold.{Hold}
 use Rattle.locks.specs.declared.station.Phase.{Phase}
@@ -236,7 +236,7 @@ granted_by_rules {V} drafts xs show i r m h w l e =
     t : rules.Stations V
     t = stations_with drafts xs
 
-    go : (p : Phase) → Some (r, m) ≡ awaited_in p → granted_station (t i) r m (before t show i r) ≡ rules-of.granted_in (before t show i) (t i) (phase_of p)
+    go : (p : Phase) → Some (r, m) ≡ awaited_in p → granted_station (t i) r m (before t show i r) ≡ rules_of.granted_in (before t show i) (t i) (phase_of p)
     go Idle e = absurd (let z : ◌≡◌ {A = ℕ} 0 1 = cc in omega arith)
     go (Running s) e = absurd (let z : ◌≡◌ {A = ℕ} 0 1 = cc in omega arith)
     go (Wounded s) e = absurd (let z : ◌≡◌ {A = ℕ} 0 1 = cc in omega arith)

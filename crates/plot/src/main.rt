@@ -8,6 +8,7 @@ mod task;
 
 use asked::{Asked, KindName, read_words};
 use std::env;
+use std::process::ExitCode;
 use task::run_task;
 use values::kind::Kind;
 use values::level::{Level, LevelChange, Levels};
@@ -41,10 +42,12 @@ fn run(rt: &HostRuntime) -> anyhow::Result<()> {
     }
 }
 
-fn main(rt: HostRuntime) -> anyhow::Result<()> {
-    let ended = run(&rt);
-    if let Err(e) = &ended {
-        eprintln!(rt; "plot: {e}")?;
+fn main(rt: HostRuntime) -> anyhow::Result<ExitCode> {
+    match run(&rt) {
+        Ok(()) => Ok(ExitCode::SUCCESS),
+        Err(e) => {
+            eprintln!(rt; "plot: {e}")?;
+            Ok(ExitCode::FAILURE)
+        }
     }
-    ended
 }

@@ -11,7 +11,8 @@ returns-in-Ok g c =
 pub returns-in-Err : goal.returns-in-Err
 returns-in-Err g c =
     let home = g.K.Kind.home in let unpacked = g.K.Kind.unpacked in
-    row_value home unpacked c.args.self.now.image.now c.args.n _ (search rules) (c.home.ensures ∙ ap (or_home home) (c.in-Err.ensures ∙ ap unpacked c.get.ensures))
+    let refused = ap (or_home home) (c.in-Err.ensures ∙ ap unpacked c.get.ensures) in
+    row_value home unpacked c.args.self.now.image.now c.args.n _ (search rules) cc
 
 pub returns-else-n-rows_in : goal.returns-else-n-rows_in
 returns-else-n-rows_in g c = no_row g.K.Kind.home g.K.Kind.unpacked c.args.self.now.image.now c.args.n (search rules)
