@@ -1,5 +1,4 @@
 // Standing, plotted and count.
-ghost use Rattle.std.specs.Prelude.{◌≡◌};
 ghost use Rattle.rules.specs.declared.Answer.TheVariants.{Number, Value, Stands};
 ghost use Rattle.rules.specs.declared.Call.TheVariants.{Standing as StandingCall, Plotted, Count};
 ghost use Rattle.engine.specs.View.{view};

@@ -1,5 +1,5 @@
 // Commit and give up.
-ghost use Rattle.std.specs.Prelude.{◌≡◌, ◌<◌, true, false, not, ◌&&◌, get_or, is_ok, ◌==◌, slice_index_or};
+ghost use Rattle.std.specs.Prelude.{◌≡◌, ◌<◌, true, false, not, ◌&&◌, is_ok, ◌==◌, slice_index_or};
 ghost use Rattle.rules.specs.declared.Answer.TheVariants.{Number, Committed};
 ghost use Rattle.rules.specs.declared.Call.TheVariants.{Commit, GiveUp};
 ghost use Rattle.rules.specs.Searches.{count_below};
@@ -41,7 +41,7 @@ impl<K: Kind, S: Shelf<K>, D: Shelf<K>> Engine<K, S, D> {
     // Writes the drafts of station s to the show.
     fn write_drafts(&mut self, s: usize)
         requires { s < 16 }
-        ensures rows { S.Shelf.rows self.new.show ≡ with_drafts (drafts_of K.Kind.home (D.Shelf.rows self.old.drafts) s) (get_or self.old.locks.stations s no_station).hand (get_or self.old.locks.stations s no_station).held (S.Shelf.rows self.old.show) }
+        ensures rows { S.Shelf.rows self.new.show ≡ with_drafts (drafts_of K.Kind.home (D.Shelf.rows self.old.drafts) s) (slice_index_or self.old.locks.stations s no_station).hand (slice_index_or self.old.locks.stations s no_station).held (S.Shelf.rows self.old.show) }
         ensures show { Kept S.Shelf.rows S.Shelf.memory S.Shelf.sound self.old.show self.new.show }
         ensures drafts { self.new.drafts ≡ self.old.drafts }
         ensures locks { self.new.locks ≡ self.old.locks }

@@ -5,7 +5,7 @@ use lib.Lanes.{zip2, mask_l, top}
 use lib.LanesLaws.{length-zip2}
 use Rattle.std.proofs.lemmas.List.{ext_get_or, take_all, length-map}
 use Rattle.std.proofs.lemmas.Bool.{eqb-true}
-use Rattle.values.specs.Padded.{getD_zeros}
+use Rattle.values.specs.Padded.{get_or_zeros}
 use Rattle.image.specs.Blocks.{xor_of, xors, checks, row_of, row_xors}
 use Rattle.image.proofs.Parts.{length_part, get_d_part}
 
@@ -65,7 +65,7 @@ module _ (b : List ℕ) (long : length b ≡ 512) where
   byte k zero h g =
       let e : 0 + k ≡ k = omega arith in
       ap (λ (i : ℕ). get_or b i 0) e
-      ∙ sym (ap (bit_xor (bit_xor (get_or b k 0) (get_or (replicate 16 0) k 0))) (getD_zeros 16 (8 + k)) ∙ xor_zero_r _ ∙ ap (bit_xor (get_or b k 0)) (getD_zeros 16 k) ∙ xor_zero_r _)
+      ∙ sym (ap (bit_xor (bit_xor (get_or b k 0) (get_or (replicate 16 0) k 0))) (get_or_zeros 16 (8 + k)) ∙ xor_zero_r _ ∙ ap (bit_xor (get_or b k 0)) (get_or_zeros 16 k) ∙ xor_zero_r _)
   byte k (suc m) h g =
       let n : 2 * suc m + 1 ≡ suc (suc (2 * m + 1)) = omega arith in
       let low : 8 * (2 * m + 1) + k ≡ 8 + 16 * m + k = omega arith in

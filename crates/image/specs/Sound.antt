@@ -1,5 +1,5 @@
 -- What a sound image and a new image are, with no word of the order in which an image is checked.
-use Rattle.std.specs.Prelude.{◌≡◌, ℕ, ◌*◌, ◌/◌, ◌<◌, ◌≤◌, true, List, length, is_ok, Result, slice_index, slice_index_or}
+use Rattle.std.specs.Prelude.{◌≡◌, ℕ, ◌*◌, ◌/◌, ◌<◌, ◌≤◌, true, List, length, is_ok, Result, slice_index}
 use Rattle.values.specs.Packing.{number_at}
 use Rattle.image.specs.Blocks.{part, checks, row_of}
 use Rattle.image.specs.Images.{block_of}
@@ -7,8 +7,8 @@ use Rattle.image.specs.Images.{block_of}
 -- a block whose number is q, of a kind, with no mark, whose check fits, and whose rows are as asked
 pub record BlockOf (kind : ℕ) (Row : List ℕ → Type 0) (q : ℕ) (b : List ℕ) : Type 0 where
   pub number : number_at b 0 ≡ q
-  pub of_kind : slice_index_or b 2 0 ≡ kind
-  pub no_mark : slice_index_or b 3 0 ≡ 0
+  pub of_kind : slice_index b 2 ≡ kind
+  pub no_mark : slice_index b 3 ≡ 0
   pub zeros : (i : ℕ) → 4 ≤ i → i < 8 → slice_index b i ≡ 0
   pub check : part b 504 8 ≡ checks b
   pub rows : (k : ℕ) → k < 31 → Row (row_of b k)

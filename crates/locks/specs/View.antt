@@ -1,6 +1,6 @@
 -- How the tables of the code read as the stations of the rules. The drafts come from elsewhere: place k of station i has
 -- the draft `drafts i k`.
-use Rattle.std.specs.Prelude.{◌≡◌, ℕ, zero, suc, ◌≤◌, Bool, false, cond, not, List, [], ◌∷◌, length, get_or, Some, None, Option, ◌==◌, slice_index_or}
+use Rattle.std.specs.Prelude.{◌≡◌, ℕ, zero, suc, ◌≤◌, Bool, false, cond, not, List, [], ◌∷◌, length, Some, None, Option, ◌==◌, slice_index_or}
 use Rattle.rules.specs.declared.Mode.{Mode}
 use Rattle.rules.specs.declared.Mode.TheVariants.{Shared}
 use Rattle.rules.specs.declared.Stage.TheVariants.{Owned}
@@ -71,7 +71,7 @@ Sane s = (length s.hand ≡ 16) × (s.held ≤ 16)
 -- the place of the hold on record r among the first n, the newest first
 abbrev pub place_on : ℕ → List Hold → ℕ → Option ℕ
 place_on r hand zero = None
-place_on r hand (suc n) = cond ((get_or hand n no_hold).at == r) (Some n) (place_on r hand n)
+place_on r hand (suc n) = cond ((slice_index_or hand n no_hold).at == r) (Some n) (place_on r hand n)
 
 -- the place that a wait keeps free for its hold
 abbrev pub claimed : Phase → ℕ
@@ -90,7 +90,7 @@ attempts stations = count_below 16 (λ i. active (slice_index_or stations i no_s
 
 -- the stamp of station i, 0 where there is none
 abbrev pub stamp_at : List Station → ℕ → ℕ
-stamp_at stations i = stamp_of (get_or stations i no_station).phase
+stamp_at stations i = stamp_of (slice_index_or stations i no_station).phase
 
 -- is there an attempt at station i?
 abbrev pub active_at : List Station → ℕ → Bool
@@ -105,7 +105,7 @@ awaited_in (Wounded s) = None
 
 -- the record and the mode that station i waits for, if it waits
 abbrev pub awaited_at : List Station → ℕ → Option (ℕ × Mode)
-awaited_at stations i = awaited_in (get_or stations i no_station).phase
+awaited_at stations i = awaited_in (slice_index_or stations i no_station).phase
 
 -- a set of stations
 abbrev pub member_of : List Bool → ℕ → Bool

@@ -1,5 +1,5 @@
 // Changes of the table. A station number at or past 16 names no station: nothing changes there.
-ghost use Rattle.std.specs.Prelude.{◌≡◌, ◌+◌, replicate, if◌then◌else◌, nat_eq};
+ghost use Rattle.std.specs.Prelude.{◌≡◌, ◌+◌, replicate, if◌then◌else◌, ◌==◌};
 ghost use Rattle.locks.specs.View.{stamp_at, active_at, member_of};
 ghost use Rattle.locks.specs.Changes.{idle_entry, begins, change, freed, started, awaiting, granted, again, retired_at, wounded_below};
 
@@ -27,7 +27,7 @@ impl LockTable {
     // A table of idle stations; 0 as the first stamp counts as 1.
     pub fn new(first: u32) -> LockTable
         ensures stations { result.stations ≡ replicate 16 idle_entry }
-        ensures stamps { result.next ≡ (if nat_eq first 0 then 1 else first) }
+        ensures stamps { result.next ≡ (if first == 0 then 1 else first) }
         ensures commits { result.commits ≡ 0 }
     {
         let next = if first == 0 { 1 } else { first };

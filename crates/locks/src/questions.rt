@@ -1,5 +1,5 @@
 // Questions to the whole table. A station number at or past 16 is an idle station in each.
-ghost use Rattle.std.specs.Prelude.{◌≡◌, ◌<◌, ◌≤◌, true, get_or, IfSome, MatchOption, slice_index_or};
+ghost use Rattle.std.specs.Prelude.{◌≡◌, ◌<◌, ◌≤◌, true, IfSome, MatchOption, slice_index_or};
 ghost use Rattle.rules.specs.Searches.{any_below};
 ghost use Rattle.rules.specs.Tables.{older, is_wounded};
 ghost use Rattle.rules.specs.Operations.{bonds, behind_bond};
@@ -43,7 +43,7 @@ impl LockTable {
     // How many records station i holds: the next hold comes to that place.
     pub fn held(&self, i: usize) -> usize
         ensures within { result ≤ 16 }
-        ensures held { result ≡ (get_or self.now.stations i no_station).held }
+        ensures held { result ≡ (slice_index_or self.now.stations i no_station).held }
     {
         if i < 16 { self.stations[i].held } else { 0 }
     }

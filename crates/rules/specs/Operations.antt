@@ -1,6 +1,6 @@
 -- The operations on the lock table: what stands before a hold, bonds, widening and wounding, promoting, and settling, with
 -- which every call that frees something ends.
-use Rattle.std.specs.Prelude.{ℕ, zero, suc, Bool, false, cond, not, ◌&&◌, ◌||◌, List, [], ◌∷◌, is_some, Some, None, Option, ◌==◌, nat_eq, nat_lt}
+use Rattle.std.specs.Prelude.{ℕ, zero, suc, Bool, false, cond, not, ◌&&◌, ◌||◌, List, [], ◌∷◌, is_some, Some, None, Option, ◌==◌, nat_lt}
 use Rattle.rules.specs.declared.Mode.{Mode}
 use Rattle.rules.specs.declared.Mode.TheVariants.{Shared, Exclusive}
 use Rattle.rules.specs.declared.Stage.TheVariants.{Owned, Retired}
@@ -143,7 +143,7 @@ wounded_by_take t i r m = widen t (must_yield t i r m)
 
 -- whom a give up wounds, the station itself among them
 unfoldable pub wounded_by_give_up : {V : Type 0} → Stations V → ℕ → ℕ → Bool
-wounded_by_give_up t i = widen t (λ j. nat_eq j i)
+wounded_by_give_up t i = widen t (λ j. j == i)
 
 -- the stations with a wait of station i added
 abbrev pub add_wait : {V : Type 0} → Stations V → ℕ → ℕ → Mode → Stations V

@@ -27,7 +27,7 @@ pub trait Shelf<K: Kind> {
     fn read(&self, n: usize) -> Option<K::Value>
         ensures { result ≡ slice_get (rows self.now) n };
 
-    // Puts the value at row n and leaves every other row. Past the end `set` leaves the list.
+    // Puts the value at row n and leaves every other row. Past the end `slice_set` leaves the list.
     fn write(&mut self, n: usize, v: K::Value) -> Result<(), PastCount>
         ensures answer { result ≡ write_answer (rows self.old) n }
         ensures after { rows self.new ≡ slice_set (rows self.old) n v }

@@ -72,10 +72,10 @@ pub record Parts {V : Type 0} (n : ℕ) (parts : V → List ℕ) (offence : List
   pub begins : (b : List ℕ) (k : ℕ) → Bytes16 b → offence b ≡ Some k → (k ≤ n) × (k < 16) × ((v : V) × (take k (parts v) ≡ take k b))
 
 -- a list of zeros has 0 at every place
-pub getD_zeros : (n k : ℕ) → slice_index_or {A = ℕ} (replicate n 0) k 0 ≡ 0
-getD_zeros zero k = refl
-getD_zeros (suc n) zero = refl
-getD_zeros (suc n) (suc k) = getD_zeros n k
+pub get_or_zeros : (n k : ℕ) → slice_index_or {A = ℕ} (replicate n 0) k 0 ≡ 0
+get_or_zeros zero k = refl
+get_or_zeros (suc n) zero = refl
+get_or_zeros (suc n) (suc k) = get_or_zeros n k
 
 -- what was accepted did not offend
 accepted : {V : Type 0} (o p : Option ℕ) (w v : V) → value_unless (or_else o p) w ≡ Ok v → (o ≡ None) × (p ≡ None) × (w ≡ v)
@@ -102,7 +102,7 @@ module _ {V : Type 0} {n : ℕ} {parts : V → List ℕ} {offence : List ℕ →
   at_part v k h = let l = p.long v in let g : k < length (parts v) = omega arith in get_or_append_left (parts v) (replicate (16 - n) 0) 0 k g
 
   at_zero : (v : V) (k : ℕ) → n ≤ k → slice_index (padded n (parts v)) k ≡ 0
-  at_zero v k h = get_or-append_right (parts v) (replicate (16 - n) 0) n k 0 (p.long v) h ∙ getD_zeros (16 - n) (k - n)
+  at_zero v k h = get_or-append_right (parts v) (replicate (16 - n) 0) n k 0 (p.long v) h ∙ get_or_zeros (16 - n) (k - n)
 
   padded_long : (v : V) → length (padded n (parts v)) ≡ 16
   padded_long v = let few = p.few in let long = p.long v in simp (length-append, length-replicate) (omega arith)

@@ -44,13 +44,13 @@ returns g c =
     let s = c.args.station in let i = c.in_ok-s.s in let number = c.commit-number.result in
     let named = c.admit_commit.ensures in
     let ok = admission_of s i _ (sym c.in_ok-s.was ∙ named.2) in
-    let writes = c.write_drafts.ensures.rows in let same-locks = c.write_drafts.ensures.locks in let same-drafts = c.write_drafts.ensures.drafts in
-    let frees = c.commit-number.ensures.stations ∙ ap (λ (l : LockTable). change freed i l.stations) same-locks in
-    let counts = c.commit-number.ensures.commits ∙ ap (λ (l : LockTable). cond (active_at l.stations i) (l.commits + 1) l.commits) same-locks in
+    let writes = c.write_drafts.ensures.rows in let same_locks = c.write_drafts.ensures.locks in let same_drafts = c.write_drafts.ensures.drafts in
+    let frees = c.commit-number.ensures.stations ∙ ap (λ (l : LockTable). change freed i l.stations) same_locks in
+    let counts = c.commit-number.ensures.commits ∙ ap (λ (l : LockTable). cond (active_at l.stations i) (l.commits + 1) l.commits) same_locks in
     let tells = c.commit-number.ensures.number in let rest = c.settle.ensures.rest in
-    let settles = subst (λ d. Served u.stations (g.D.Shelf.rows d) → stations_with (drafts_of home rows) w.stations ≡ settle (show_of home plotted) (stations_with (drafts_of home (g.D.Shelf.rows d)) u.stations)) same-drafts c.settle.ensures.stations in
-    let long = rest.kept_drafts.same_count ∙ ap (λ d. length (g.D.Shelf.rows d)) same-drafts in
-    let next = rest.same_stamp ∙ c.commit-number.ensures.stamps ∙ ap (λ (l : LockTable). l.next) same-locks in
+    let settles = subst (λ d. Served u.stations (g.D.Shelf.rows d) → stations_with (drafts_of home rows) w.stations ≡ settle (show_of home plotted) (stations_with (drafts_of home (g.D.Shelf.rows d)) u.stations)) same_drafts c.settle.ensures.stations in
+    let long = rest.kept_drafts.same_count ∙ ap (λ d. length (g.D.Shelf.rows d)) same_drafts in
+    let next = rest.same_stamp ∙ c.commit-number.ensures.stamps ∙ ap (λ (l : LockTable). l.next) same_locks in
     let commits = rest.same_commits in
     record {
       ruled = λ orderly. (
@@ -64,5 +64,5 @@ returns g c =
       );
       refused = λ e. true_not_false e;
       show = subst (λ x. Kept g.S.Shelf.rows g.S.Shelf.memory g.S.Shelf.sound c.args.self.now.show x) (sym rest.same_show) c.write_drafts.ensures.show;
-      drafts = subst (λ x. Kept g.D.Shelf.rows g.D.Shelf.memory g.D.Shelf.sound x c.settle.new.self.drafts) same-drafts rest.kept_drafts;
+      drafts = subst (λ x. Kept g.D.Shelf.rows g.D.Shelf.memory g.D.Shelf.sound x c.settle.new.self.drafts) same_drafts rest.kept_drafts;
     }
