@@ -1,4 +1,4 @@
-// Calls and answers as plain numbers, as the benchmark and the differential test hand them over.
+// Calls and answers as plain numbers, as a benchmark or a differential test can hand them over.
 use rules::{Answer, Call, Mode, Outcome, Refusal, Standing, State};
 use values::kind::Kind;
 use values::level::{Level, LevelChange, Levels};
@@ -52,7 +52,7 @@ impl Coded for Timings {
     }
 }
 
-// The call that the numbers stand for; a number of a call past the ninth is count.
+// The call that the numbers stand for; a number past 9 is count.
 pub(crate) fn call_of<K: Coded>(n: &CallNumbers) -> Call<K::Change> {
     let station = n[1];
     let record = n[2];

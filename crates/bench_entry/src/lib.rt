@@ -1,5 +1,5 @@
-// What the benchmark and the differential test call: the rows of an image of levels, written and read one by one through the block
-// shelf, lists of calls played on an engine, and what retiring buys, in rounds.
+// What the benchmark calls: the rows of an image of levels, written and read one by one through the block shelf. And what a benchmark
+// and a differential test of the engine can call: lists of calls played on it, and what retiring buys, in rounds.
 
 #![tactic(auto)]
 

@@ -8,7 +8,7 @@ use values::level::{LevelChange, Levels};
 // The hot record, which every station takes first.
 const HOT: u32 = 0;
 
-// The records that each station has for itself.
+// How many records each station has for itself.
 const OWN: u32 = 15;
 
 // The next call of a station's attempt.

@@ -16,8 +16,8 @@ use shelves::shelf::Shelf;
 use std::marker::PhantomData;
 use values::kind::Kind;
 
-// What an engine is: the two shelves that it owns, and the lock table. The show has 1 to 1,984 records and the drafts 256 rows: place
-// k of station s has row 16 s + k.
+// What an engine is: the two shelves that it owns, and the lock table. Where they fit, the show has 1 to 1,984 records and the drafts
+// 256 rows: place k of station s has row 16 s + k.
 #[derive(Drop)]
 pub struct Engine<K: Kind, S: Shelf<K>, D: Shelf<K>> {
     pub(crate) show: S,

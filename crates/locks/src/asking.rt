@@ -1,4 +1,4 @@
-// Questions to one station, by the holds in its hand.
+// Questions to one station: what it does, and the holds in its hand.
 ghost use Rattle.std.specs.Prelude.{◌≡◌, ◌<◌, is_some, IfSome};
 ghost use Rattle.rules.specs.declared.Mode.TheVariants.{Shared};
 ghost use Rattle.rules.specs.Tables.{is_waiting, is_wounded, is_owned, conflict, conflicts, owned_conflicts, hold_on, draft_in, waits_for};

@@ -1,3 +1,4 @@
+-- What levels owe of their two bytes; the laws of packing follow for every kind.
 use Rattle.std.specs.Prelude.{◌≡◌, ℕ, ◌/◌, ◌%◌, ◌<◌, [], ◌∷◌, slice_index, refl}
 use Rattle.std.proofs.Common.{arith, rules}
 use Rattle.values.specs.Levels.{level_parts, level_offence, level_made}

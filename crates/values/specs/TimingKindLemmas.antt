@@ -1,3 +1,4 @@
+-- What timings owe of their seven bytes; the laws of packing follow for every kind.
 use Rattle.std.specs.Prelude.{◌≡◌, ℕ, zero, suc, ◌+◌, ◌/◌, ◌%◌, ◌<◌, ◌≤◌, min, Bool, true, false, cond, leb, ◌⊎◌, List, [], ◌∷◌, take, Some, None, nat_le, slice_index, refl}
 use Rattle.std.proofs.Common.{ap, sym, ◌∙◌, inl, inr, ⊎_elim, arith, rules, leb-true}
 use Rattle.values.specs.Packing.{Bytes16, number_at, or_else}

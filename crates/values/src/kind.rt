@@ -14,7 +14,7 @@ pub trait Kind {
     // The number by which an image says of which kind its rows are.
     const NUMBER: u8;
 
-    // NUMBER again, for contracts of generic code: a constant of a trait has no value there.
+    // NUMBER again, for contracts of generic code.
     ghost code: { ℕ };
 
     // The value that a record of a new show has.
