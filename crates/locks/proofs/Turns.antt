@@ -2,7 +2,6 @@
 use Rattle.std.proofs.Common.{◌≡◌, ℕ, zero, suc, ◌+◌, ◌<◌, ◌≤◌, Bool, true, false, cond, ◌&&◌, ◌||◌, ltb, ◌⊎◌, List, length, get_or, set, replicate, Some, None, Option, sym, refl, ap, ◌∙◌, inl, inr, ⊎_elim, add-one, arith, get_or-set_other, get_or-set_same}
 use Rattle.std.proofs.lemmas.Bool.{cond-true, cond-false, cases_eq, cases_lt, lt-ltb, le-ltb}
 use Rattle.rules.specs.Searches.{any_below, count_below, first_below}
-use Rattle.rules.proofs.Searches.{any_below_none, first_below_empty}
 use Rattle.locks.specs.Asked.{found_first}
 
 -- one more turn, as the rules' recursion has it
@@ -41,25 +40,9 @@ first_more p n = one_more (λ k. first_below k p) n ∙ go (first_below n p)
 pub first_turn : (p : ℕ → Bool) (n : ℕ) (o x : Option ℕ) (b : Bool) → o ≡ first_below n p → b ≡ p n → x ≡ found_first o n b → x ≡ first_below (n + 1) p
 first_turn p n o x b e f g = g ∙ ap (λ q. found_first q n b) e ∙ ap (found_first (first_below n p) n) f ∙ sym (first_more p n)
 
--- Searches that end at the first that passes.
-
--- one more that fails
+-- a search that ends at the first that passes: one more that fails
 pub none_more : (p : ℕ → Bool) (n : ℕ) → any_below n p ≡ false → p n ≡ false → any_below (n + 1) p ≡ false
 none_more p n e f = one_more (λ k. any_below k p) n ∙ ap (λ b. b || any_below n p) f ∙ e
-
--- the first that passes, where none below it does
-pub first_found : (m n : ℕ) (p : ℕ → Bool) → n < m → any_below n p ≡ false → p n ≡ true → first_below m p ≡ Some n
-first_found zero n p l e f = absurd (omega arith)
-first_found (suc m) n p l e f = ⊎_elim
-    (λ (low : n < m). ap (λ (o : Option ℕ). elim o [ Some k ↦ Some k | None ↦ cond (p m) (Some m) None ]) (first_found m n p low e f))
-    (λ (high : m ≤ n). let same : m ≡ n = omega arith in
-    ap (λ (o : Option ℕ). elim o [ Some k ↦ Some k | None ↦ cond (p m) (Some m) None ]) (first_below_empty m p (any_below_none m p (ap (λ (k : ℕ). any_below k p) same ∙ e)))
-    ∙ ap (λ (k : ℕ). cond (p k) (Some k) None) same ∙ cond-true (p n) (Some n) None f)
-    (cases_lt n m)
-
--- none passes
-pub first_none : (n m : ℕ) (p : ℕ → Bool) → any_below n p ≡ false → n ≤ m → m ≤ n → first_below m p ≡ None
-first_none n m p e l g = let same : n ≡ m = omega arith in first_below_empty m p (any_below_none m p (ap (λ (k : ℕ). any_below k p) (sym same) ∙ e))
 
 -- a set filled up to n, with one more number filled
 pub filled_more : (p : ℕ → Bool) (members : List Bool) (n : ℕ) (b : Bool) → n < length members → b ≡ p n
