@@ -1,6 +1,6 @@
 //! The rules of the lock table: the words that the engine and its law share.
 //!
-//! This crate has no running code but `Refusal::number`. Its types are those of the engine's calls and answers; its
+//! This crate has no running code but the number of a refusal. Its types are those of the engine's calls and answers; its
 //! `specs/` say what each call answers and leaves, and the functions at the end name the theorems that are proved of it.
 
 #![tactic(auto)]
@@ -12,7 +12,7 @@ ghost use Rattle.rules.specs.Naming.{NamingIsFree};
 ghost use Rattle.rules.specs.Widening.{WideningIsLeast};
 
 /// How a record is held: with others that only look, or alone, to change it.
-#[derive(Clone, Copy, PartialEq, Drop)]
+#[derive(Clone, Copy, PartialEq, Eq, Debug)]
 pub enum Mode {
     /// Looks at the record; two shared holds do not conflict.
     Shared,
@@ -21,7 +21,7 @@ pub enum Mode {
 }
 
 /// How far a hold has come.
-#[derive(Clone, Copy, PartialEq, Drop)]
+#[derive(Clone, Copy, PartialEq, Eq, Debug)]
 pub enum Stage {
     /// The station still looks at the record or changes it.
     Owned,
@@ -30,7 +30,7 @@ pub enum Stage {
 }
 
 /// What a station does.
-#[derive(Clone, Copy, PartialEq, Drop)]
+#[derive(Clone, Copy, PartialEq, Eq, Debug)]
 pub enum State {
     /// No attempt.
     Idle,
@@ -43,7 +43,7 @@ pub enum State {
 }
 
 /// Why a call was refused.
-#[derive(Clone, Copy, Drop)]
+#[derive(Clone, Copy, PartialEq, Eq, Debug)]
 pub enum Refusal {
     /// The station number is above 15.
     Station,
@@ -73,12 +73,12 @@ pub enum Refusal {
     Sound,
 }
 
-impl Refusal {
-    /// The number of a refusal.
-    pub fn number(self) -> u32
-        ensures { result ≡ refusal_number self }
-    {
-        match self {
+/// The number of a refusal.
+impl From<Refusal> for u32 {
+    ghost from_gives = { λ why n. n ≡ refusal_number why };
+
+    fn from(why: Refusal) -> u32 {
+        match why {
             Refusal::Station => 1,
             Refusal::Idle => 2,
             Refusal::Busy => 3,
@@ -97,7 +97,7 @@ impl Refusal {
 }
 
 /// What standing tells of a station.
-#[derive(Clone, Copy, Drop)]
+#[derive(Clone, Copy, PartialEq, Eq, Debug)]
 pub struct Standing {
     pub state: State,
     /// The stamp, unless the station is idle.
@@ -108,14 +108,14 @@ pub struct Standing {
 }
 
 /// What became of a take.
-#[derive(Clone, Copy, PartialEq, Drop)]
+#[derive(Clone, Copy, PartialEq, Eq, Debug)]
 pub enum Outcome {
     Granted,
     Waits,
 }
 
 /// The eleven calls. Stations and records go by their numbers; `C` is a change of a value.
-#[derive(Clone, Copy, Drop)]
+#[derive(Clone, Copy, PartialEq, Eq, Debug)]
 pub enum Call<C> {
     Begin(u32),
     Take(u32, u32, Mode),
@@ -131,7 +131,7 @@ pub enum Call<C> {
 }
 
 /// What a call answers. `V` is a value of a record.
-#[derive(Clone, Copy, Drop)]
+#[derive(Clone, Copy, PartialEq, Eq, Debug)]
 pub enum Answer<V> {
     Refused(Refusal),
     /// A stamp, a number of waits granted, of attempts wounded, or of records.
@@ -145,30 +145,22 @@ pub enum Answer<V> {
 }
 
 /// The nine plotting cases follow from the rules.
-pub fn cases_hold() -> u8
+pub fn cases_hold()
     ensures { CasesHold }
-{
-    0
-}
+{}
 
 /// The plays that a misreading of the rules would turn go as written.
-pub fn misreadings_held_off() -> u8
+pub fn misreadings_held_off()
     ensures { MisreadingsHeldOff }
-{
-    0
-}
+{}
 
 /// The widened set is the least one that has the first members and is closed under "a member holds a record exclusively and a
 /// younger station holds it".
-pub fn widening_is_least<V>() -> u8
+pub fn widening_is_least<V>()
     ensures { WideningIsLeast V }
-{
-    0
-}
+{}
 
 /// The station that a refused commit names is a free choice: there is one to name, and the table left does not depend on it.
-pub fn naming_is_free<V, C>() -> u8
+pub fn naming_is_free<V, C>()
     ensures { NamingIsFree V C }
-{
-    0
-}
+{}
