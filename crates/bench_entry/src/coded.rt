@@ -1,5 +1,5 @@
 // Calls and answers as plain numbers, as a benchmark or a differential test can hand them over.
-use rules::{Answer, Call, Mode, Outcome, Refusal, Standing, State};
+use rules::{Answer, Call, Mode, Outcome, Refusal, Standing};
 use values::kind::Kind;
 use values::level::{Level, LevelChange, Levels};
 use values::timing::{Timing, TimingChange, Timings};
@@ -79,30 +79,15 @@ pub(crate) fn call_of<K: Coded>(n: &CallNumbers) -> Call<K::Change> {
 fn refused(why: Refusal) -> AnswerNumbers {
     match why {
         Refusal::Bound { bonds, station } => [11, bonds, 0, 0, 0, station],
-        _ => [why.number(), 0, 0, 0, 0, 0],
-    }
-}
-
-fn state_number(state: State) -> u32 {
-    match state {
-        State::Idle => 0,
-        State::Running => 1,
-        State::Waiting => 2,
-        State::Wounded => 3,
+        _ => [why.into(), 0, 0, 0, 0, 0],
     }
 }
 
 // The state, the stamp (0 where there is none), the bonds, and the record that is waited for plus 1 (0 where there is none).
 fn stands(s: Standing) -> AnswerNumbers {
-    let stamp = match s.stamp {
-        Some(stamp) => stamp,
-        None => 0,
-    };
-    let awaits = match s.awaits {
-        Some(at) => at.saturating_add(1),
-        None => 0,
-    };
-    [0, state_number(s.state), stamp, s.bonds, awaits, 0]
+    let stamp = s.stamp.unwrap_or(0);
+    let awaits = s.awaits.map_or(0, |at| at.saturating_add(1));
+    [0, s.state as u32, stamp, s.bonds, awaits, 0]
 }
 
 // The numbers of an answer.

@@ -17,10 +17,8 @@ fn play_numbers<K: Coded, S: Shelf<K> + Drop, D: Shelf<K> + Drop>(
     answers: &mut [AnswerNumbers],
 ) {
     let mut engine: Engine<K, S, D> = Engine::open(show, drafts, first);
-    let count = calls.len().min(answers.len());
-    for i in 0..count {
-        let call = call_of::<K>(&calls[i]);
-        answers[i] = numbers_of_answer::<K>(engine.answer(call));
+    for (call, answer) in calls.iter().zip(answers.iter_mut()) {
+        *answer = numbers_of_answer::<K>(engine.answer(call_of::<K>(call)));
     }
 }
 
@@ -46,7 +44,7 @@ pub extern "C" fn bench_play_timings(
     calls: &[CallNumbers],
     answers: &mut [AnswerNumbers],
 ) {
-    let home = <Timings as Kind>::to_numbers(<Timings as Kind>::home());
+    let home = Timings::to_numbers(Timings::home());
     let mut rows = [home; 256];
     let show = BlockShelf { image };
     let drafts: Table<Timings> = Table { lines: &mut rows };

@@ -69,30 +69,36 @@ fn step_after(step: Step, retiring: bool) -> Step {
     }
 }
 
-fn state_of<D: Shelf<Levels>, S: Shelf<Levels>>(engine: &Engine<Levels, S, D>, s: u32) -> State {
-    match engine.standing(s) {
-        Ok(standing) => standing.state,
-        Err(_) => State::Idle,
+// What the station is due to do: the call of this round, or nothing while it waits.
+fn due<S: Shelf<Levels>, D: Shelf<Levels>>(
+    engine: &Engine<Levels, S, D>,
+    s: u32,
+    step: Step,
+) -> Option<Step> {
+    match engine.standing(s).ok()?.state {
+        State::Waiting => None,
+        State::Wounded => Some(Step::Again),
+        State::Idle | State::Running => Some(step),
     }
 }
 
-// Makes the station's call of this round, unless it waits. Answers whether it committed, and the step after it.
-fn take_turn<D: Shelf<Levels>, S: Shelf<Levels>>(
+// Makes the station's call of this round, unless it waits, and goes on to the next step where the call was not refused. Answers the
+// commit number, if it committed.
+fn take_turn<S: Shelf<Levels>, D: Shelf<Levels>>(
     engine: &mut Engine<Levels, S, D>,
     s: u32,
-    step: Step,
+    step: &mut Step,
     retiring: bool,
-) -> (bool, Step) {
-    let due = match state_of(engine, s) {
-        State::Waiting => return (false, step),
-        State::Wounded => Step::Again,
-        State::Running => step,
-        State::Idle => step,
-    };
-    match engine.answer(call_at(due, s)) {
-        Answer::Refused(_) => (false, due),
-        Answer::Committed(_) => (true, step_after(due, retiring)),
-        _ => (false, step_after(due, retiring)),
+) -> Option<u32> {
+    let call = due(engine, s, *step)?;
+    *step = call;
+    let answer = engine.answer(call_at(call, s));
+    if !matches!(answer, Answer::Refused(_)) {
+        *step = step_after(call, retiring);
+    }
+    match answer {
+        Answer::Committed(number) => Some(number),
+        _ => None,
     }
 }
 
@@ -107,10 +113,8 @@ pub extern "C" fn bench_rounds(show: &mut [u16], rounds: u32, retiring: bool) ->
     let mut steps = [Step::Begin; 16];
     let mut commits = 0u32;
     for _ in 0..rounds {
-        for s in 0..16usize {
-            let (committed, next) = take_turn(&mut engine, s as u32, steps[s], retiring);
-            steps[s] = next;
-            if committed {
+        for (s, step) in (0..16u32).zip(steps.iter_mut()) {
+            if take_turn(&mut engine, s, step, retiring).is_some() {
                 commits = commits.saturating_add(1);
             }
         }
