@@ -15,27 +15,25 @@ struct Damage {
 }
 
 // The check of a block, byte by byte and apart from the library's.
-fn close_by_hand(block: &mut [u8]) {
-    if block.len() != 512 {
-        return;
-    }
-    for k in 0..8usize {
-        let mut x = 0u8;
-        for m in 0..63usize {
-            x ^= block[8 * m + k];
+fn close_by_hand(block: &mut [u8; 512]) {
+    let (before, check) = block.split_at_mut(504);
+    check.fill(0);
+    for group in before.chunks_exact(8) {
+        for (x, byte) in check.iter_mut().zip(group) {
+            *x ^= *byte;
         }
-        block[504 + k] = x;
     }
 }
 
 fn damaged(good: &[u8; 1024], d: Damage) -> [u8; 1024] {
     let mut image = *good;
-    if d.at < 1024 {
-        image[d.at] = d.byte;
+    if let Some(byte) = image.get_mut(d.at) {
+        *byte = d.byte;
     }
     if d.closed {
-        close_by_hand(&mut image[0..512]);
-        close_by_hand(&mut image[512..1024]);
+        for block in image.as_chunks_mut::<512>().0 {
+            close_by_hand(block);
+        }
     }
     image
 }

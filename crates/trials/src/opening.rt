@@ -7,12 +7,9 @@ use shelves::table::Table;
 use std::test::Fail;
 use values::level::Levels;
 
-// A number that was answered, or a thousand and the refusal's number.
-fn told(r: Result<u32, Refusal>) -> u32 {
-    match r {
-        Ok(n) => n,
-        Err(why) => 1000u32.saturating_add(why.number()),
-    }
+// What was answered, or the refusal's number.
+fn told(r: Result<u32, Refusal>) -> Result<u32, u32> {
+    r.map_err(u32::from)
 }
 
 #[test]
@@ -37,10 +34,10 @@ fn station_and_record_numbers(rt: HostRuntime) -> Result<(), Fail> {
     let drafts: Table<Levels> = Table { lines: &mut rows };
     let mut engine: Engine<Levels, Table<Levels>, Table<Levels>> = Engine::open(show, drafts, 0);
     assert_eq!(rt; engine.count(), 1984);
-    assert_eq!(rt; told(engine.begin(15)), 1);
-    assert_eq!(rt; told(engine.begin(16)), 1001);
-    assert_eq!(rt; told(engine.begin(15)), 1003);
-    assert_eq!(rt; told(engine.again(15)), 1013);
+    assert_eq!(rt; told(engine.begin(15)), Ok(1));
+    assert_eq!(rt; told(engine.begin(16)), Err(1));
+    assert_eq!(rt; told(engine.begin(15)), Err(3));
+    assert_eq!(rt; told(engine.again(15)), Err(13));
     assert!(rt; engine.plotted(1983).is_ok());
     assert!(rt; engine.plotted(1984).is_err());
     assert!(rt; engine.look(15, 5).is_err());
@@ -62,9 +59,9 @@ fn shelves_that_do_not_fit_have_no_records(rt: HostRuntime) {
 #[test]
 fn first_stamps(rt: HostRuntime) {
     for (first, expected, then) in [
-        (0u32, 1u32, 2u32),
-        (4_000_000_000, 4_000_000_000, 1012),
-        (4_000_000_001, 1012, 1012),
+        (0u32, Ok(1u32), Ok(2u32)),
+        (4_000_000_000, Ok(4_000_000_000), Err(12u32)),
+        (4_000_000_001, Err(12), Err(12)),
     ] {
         let mut values = [0u16; 7];
         let mut rows = [0u16; 256];

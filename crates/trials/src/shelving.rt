@@ -35,18 +35,9 @@ fn a_table_reads_other_numbers_as_home(rt: HostRuntime) {
     ];
     let table: Table<Timings> = Table { lines: &mut lines };
     assert_eq!(rt; table.count(), 3);
-    assert_eq!(rt;
-        table.read(0),
-        Some(<Timings as values::kind::Kind>::of_numbers(good))
-    );
-    assert_eq!(rt;
-        table.read(1),
-        Some(<Timings as values::kind::Kind>::home())
-    );
-    assert_eq!(rt;
-        table.read(2),
-        Some(<Timings as values::kind::Kind>::home())
-    );
+    assert_eq!(rt; table.read(0), Some(Timings::of_numbers(good)));
+    assert_eq!(rt; table.read(1), Some(Timings::home()));
+    assert_eq!(rt; table.read(2), Some(Timings::home()));
     assert_eq!(rt; table.read(3), None);
 }
 

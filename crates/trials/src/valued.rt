@@ -28,6 +28,7 @@ fn levels_pack_little_endian(rt: HostRuntime) {
     assert_eq!(rt; bytes[0], 0x34);
     assert_eq!(rt; bytes[1], 0x12);
     assert_eq!(rt; Levels::unpack(bytes), Ok(v));
+    // k is the byte that the refusal has to name.
     for k in 2..16u8 {
         assert_eq!(rt; Levels::unpack(with(bytes, k as usize, 1)), Err(k));
     }
