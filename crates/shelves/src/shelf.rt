@@ -1,13 +1,25 @@
 // What every shelf shows. Code above is generic over this trait and proved once for every shelf.
-ghost use Rattle.std.specs.Prelude.{◌≡◌, ℕ, List, length, slice_set};
+ghost use Rattle.std.specs.Prelude.{◌≡◌, ℕ, List, Some, codes, length, slice_set};
 ghost use Rattle.std.specs.List.{slice_get};
 ghost use Rattle.shelves.specs.Writing.{write_answer};
 
+use std::error::Error;
+use std::fmt;
 use values::kind::Kind;
 
 // The refusal of a row number at or past the count.
-#[derive(Clone, Copy, PartialEq, Debug)]
+#[derive(Clone, Copy, PartialEq, Eq, Debug)]
 pub struct PastCount;
+
+impl fmt::Display for PastCount {
+    ghost output = { λ _. Some (codes "there is no such row") };
+
+    fn fmt<W: fmt::Write>(&self, f: &mut fmt::Formatter<W>) -> fmt::Result {
+        write!(f, "there is no such row")
+    }
+}
+
+impl Error for PastCount {}
 
 // A shelf: a list of values of kind K. Its length, the count, never changes. Rows count from 0.
 pub trait Shelf<K: Kind> {

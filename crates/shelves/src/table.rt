@@ -12,17 +12,6 @@ pub struct Table<'a, K: Kind> {
     pub lines: &'a mut [K::Numbers],
 }
 
-// The value at row n, if there is such a row.
-fn value_at<K: Kind>(lines: &[K::Numbers], n: usize) -> Option<K::Value>
-    ensures { result ≡ slice_get (map K.Kind.reading lines.now) n }
-{
-    if n < lines.len() {
-        Some(K::of_numbers(lines[n]))
-    } else {
-        None
-    }
-}
-
 impl<'a, K: Kind> Shelf<K> for Table<'a, K> {
     ghost rows = { λ s. map K.Kind.reading s.lines.now };
 
@@ -35,15 +24,15 @@ impl<'a, K: Kind> Shelf<K> for Table<'a, K> {
     }
 
     fn read(&self, n: usize) -> Option<K::Value> {
-        value_at::<K>(self.lines, n)
+        self.lines.get(n).map(|line| K::of_numbers(*line))
     }
 
     // The last clause is the table's own: what the host's memory then holds.
+    // By index: after a write through `get_mut` the proof knows nothing of the slice.
     fn write(&mut self, n: usize, v: K::Value) -> Result<(), PastCount>
         ensures answer { result ≡ write_answer (map K.Kind.reading self.old.lines.now) n }
         ensures after { map K.Kind.reading self.new.lines.now ≡ slice_set (map K.Kind.reading self.old.lines.now) n v }
         ensures memory { self.new.lines.ghost_name ∷ [] ≡ self.old.lines.ghost_name ∷ [] }
-        ensures sound { Unit {0} → Unit {0} }
         ensures lines { self.new.lines.now ≡ slice_set self.old.lines.now n (K.Kind.numbers v) }
     {
         if n < self.lines.len() {

@@ -6,7 +6,7 @@ use Rattle.values.specs.declared.level.Level.{Level}
 use Rattle.values.specs.contracts.level.Level as level_of
 use Rattle.values.specs.declared.timing.Timing.{Timing}
 use Rattle.values.specs.contracts.timing.Timing as timing_of
-use Rattle.values.specs.contracts.timing.Link as link_of
+use Rattle.values.specs.contracts.timing.link.Link as link_of
 
 pub same_level : (a b : Level) → a.value ≡ b.value → a ≡ b
 same_level a b e = values_one level_of.struct level_of.the_propositions a b (ap (λ (n : ℕ). (n, tt)) e)

@@ -1,5 +1,5 @@
 -- What levels owe of their two bytes; the laws of packing follow for every kind.
-use Rattle.std.specs.Prelude.{◌≡◌, ℕ, ◌/◌, ◌%◌, ◌<◌, [], ◌∷◌, slice_index, refl}
+use Rattle.std.specs.Prelude.{ℕ, ◌/◌, ◌%◌, ◌<◌, [], ◌∷◌, slice_index, refl}
 use Rattle.std.proofs.Common.{arith, rules}
 use Rattle.values.specs.Levels.{level_parts, level_offence, level_made}
 use Rattle.values.specs.Padded.{Parts, take_listed, low_byte, high_byte}
@@ -20,5 +20,5 @@ parts = record {
       let low = low_byte 65535 (slice_index b 0) (slice_index b 1) (omega arith) x y in
       let high = high_byte 65535 (slice_index b 0) (slice_index b 1) (omega arith) x y in
       let l = take_listed 2 b (omega arith) in cc;
-  begins = λ b k row e. let z : ◌≡◌ {A = ℕ} 0 1 = cc in absurd (omega arith);
+  begins = λ b k row e. absurd cc;
 }

@@ -1,7 +1,9 @@
 pub mod Packing
 pub mod Levels
+pub mod Links
 pub mod Timings
 pub mod Texts
+pub mod Names
 pub mod Padded
 pub mod Equality
 pub mod LevelKindLemmas

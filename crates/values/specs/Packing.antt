@@ -1,4 +1,5 @@
 -- How every kind packs a value into 16 bytes: its parts first, then zeros. Numbers are little-endian.
+use Rattle.std.specs.Option.{option_or}
 use Rattle.std.specs.Prelude.{◌≡◌, ℕ, ◌+◌, ◌-◌, ◌*◌, ◌<◌, cond, List, [], ◌∷◌, ◌++◌, length, take, drop, replicate, Some, None, Ok, Err, Option, Result, ◌==◌, slice_index}
 
 -- 16 numbers, each below 256
@@ -18,11 +19,6 @@ abbrev pub first_nonzero : List ℕ → ℕ → Option ℕ
 first_nonzero [] k = None
 first_nonzero (b ∷ bs) k = cond (b == 0) (first_nonzero bs (k + 1)) (Some k)
 
--- the first place, or else the second
-abbrev pub or_else : Option ℕ → Option ℕ → Option ℕ
-or_else (Some k) o = Some k
-or_else None o = o
-
 -- the value, unless a place offends
 abbrev pub value_unless : {V : Type 0} → Option ℕ → V → Result V ℕ
 value_unless (Some k) v = Err k
@@ -34,4 +30,4 @@ padded n parts = parts ++ replicate (16 - n) 0
 
 -- the value made of n bytes of parts, unless a part offends or a later byte is not 0
 abbrev pub unpadded : {V : Type 0} → ℕ → (List ℕ → Option ℕ) → (List ℕ → V) → List ℕ → Result V ℕ
-unpadded n offence made bs = value_unless (or_else (offence bs) (first_nonzero (drop n bs) n)) (made bs)
+unpadded n offence made bs = value_unless (option_or (offence bs) (first_nonzero (drop n bs) n)) (made bs)

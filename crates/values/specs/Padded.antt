@@ -1,21 +1,21 @@
 -- The laws of packing, once for every kind: what they owe of n bytes of parts gives them for all 16.
-use Rattle.std.specs.Prelude.{◌≡◌, ℕ, zero, suc, ◌+◌, ◌-◌, ◌*◌, ◌/◌, ◌%◌, ◌<◌, ◌≤◌, min, Bool, cond, ◌⊎◌, List, [], ◌∷◌, ◌++◌, length, take, drop, replicate, Some, None, Ok, Err, Option, ◌≢◌, slice_index, slice_index_or, refl}
-use Rattle.std.proofs.Common.{ap, sym, ◌∙◌, subst, inl, inr, ⊎_elim, arith, not-suc-le-zero, le_of_suc-le-suc, add-one, ne_eqb, drop-cons, length-append, length-take, length-drop, take-append-drop, drop_of_length-le}
+use Rattle.std.specs.Prelude.{◌≡◌, ℕ, zero, suc, ◌+◌, ◌-◌, ◌*◌, ◌/◌, ◌%◌, ◌<◌, ◌≤◌, min, Bool, cond, ◌⊎◌, List, [], ◌∷◌, ◌++◌, length, take, drop, map, replicate, Some, None, Ok, Err, Option, ◌≢◌, slice_index, slice_index_or, refl}
+use Rattle.std.proofs.Common.{ap, sym, ◌∙◌, subst, inl, inr, ⊎_elim, arith, ne_eqb, length-append, length-take, length-drop, take-append-drop}
 use Rattle.std.proofs.Math.Seq.{drop-append_seam}
-use Rattle.std.proofs.lemmas.List.{get_or_append_left, get_or-append_right, get_or-take, get_or-drop, ext_get_or, length-replicate}
+use Rattle.std.proofs.lemmas.List.{get_or_append_left, get_or-append_right, get_or-take, get_or-drop, ext_get_or, length-replicate, length-take-le}
+use Rattle.std.proofs.lemmas.List.FromFn.{fill_by_all}
+use Rattle.std.specs.List.{range_with_len}
 use Rattle.std.proofs.lemmas.Bool.{cases_lt, cases_eq}
-use Rattle.values.specs.Packing.{Bytes16, BeginsAs, first_nonzero, or_else, value_unless, padded, unpadded}
+use Rattle.std.specs.Option.{option_or}
+use Rattle.values.specs.Packing.{Bytes16, BeginsAs, first_nonzero, value_unless, padded, unpadded}
 
 -- a 0 is passed over
-pass_zero : (x : ℕ) (t : List ℕ) (k : ℕ) → x ≡ 0 → first_nonzero (x ∷ t) k ≡ first_nonzero t (k + 1)
+pub pass_zero : (x : ℕ) (t : List ℕ) (k : ℕ) → x ≡ 0 → first_nonzero (x ∷ t) k ≡ first_nonzero t (k + 1)
 pass_zero x t k e = ap (λ (y : ℕ). first_nonzero (y ∷ t) k) e
 
 -- anything else is found
-find_nonzero : (x : ℕ) (t : List ℕ) (k : ℕ) → (x ≢ 0) → first_nonzero (x ∷ t) k ≡ Some k
+pub find_nonzero : (x : ℕ) (t : List ℕ) (k : ℕ) → (x ≢ 0) → first_nonzero (x ∷ t) k ≡ Some k
 find_nonzero x t k ne = ap (λ (c : Bool). cond c (first_nonzero t (k + 1)) (Some k)) (ne_eqb x 0 ne)
-
-none_is_not_some : {k : ℕ} → Some k ≢ None
-none_is_not_some e = let z : ◌≡◌ {A = ℕ} 0 1 = cc in omega arith
 
 -- where none is found, all are 0
 all_zero : (bs : List ℕ) (k : ℕ) → first_nonzero bs k ≡ None → bs ≡ replicate (length bs) 0
@@ -23,12 +23,12 @@ all_zero [] k e = refl
 all_zero (b ∷ bs) k e =
     ⊎_elim
     (λ (h : b ≡ 0). ap (λ (x : ℕ). x ∷ bs) h ∙ ap (λ (t : List ℕ). 0 ∷ t) (all_zero bs (k + 1) (sym (pass_zero b bs k h) ∙ e)))
-    (λ (h : b ≡ 0 → ⊥). absurd (none_is_not_some (sym (find_nonzero b bs k h) ∙ e)))
+    (λ (h : b ≡ 0 → ⊥). let f = find_nonzero b bs k h in absurd cc)
     (cases_eq b 0)
 
 -- where one is found, it lies in the list, and those before it are 0
 found_after_zeros : (bs : List ℕ) (s k : ℕ) → first_nonzero bs s ≡ Some k → (s ≤ k) × (k < s + length bs) × ((j : ℕ) → s + j < k → slice_index bs j ≡ 0)
-found_after_zeros [] s k e = absurd (none_is_not_some (sym e))
+found_after_zeros [] s k e = absurd cc
 found_after_zeros (b ∷ bs) s k e =
     ⊎_elim
     (λ (h : b ≡ 0).
@@ -47,16 +47,6 @@ found_after_zeros (b ∷ bs) s k e =
 none_in_zeros : (n k : ℕ) → first_nonzero (replicate n 0) k ≡ None
 none_in_zeros zero k = refl
 none_in_zeros (suc n) k = none_in_zeros n (k + 1)
-
--- the search from place k on: past a 0, at another byte, and past the end
-pub nonzero_more : (b : List ℕ) (k : ℕ) → k < length b → slice_index b k ≡ 0 → first_nonzero (drop (k + 1) b) (k + 1) ≡ first_nonzero (drop k b) k
-nonzero_more b k h e = sym (ap (λ (t : List ℕ). first_nonzero t k) (drop-cons b k 0 h) ∙ pass_zero (slice_index b k) (drop (suc k) b) k e ∙ ap (λ (j : ℕ). first_nonzero (drop j b) (k + 1)) (sym (add-one k)))
-
-pub nonzero_found : (b : List ℕ) (k : ℕ) → k < length b → (slice_index b k ≢ 0) → first_nonzero (drop k b) k ≡ Some k
-nonzero_found b k h e = ap (λ (t : List ℕ). first_nonzero t k) (drop-cons b k 0 h) ∙ find_nonzero (slice_index b k) (drop (suc k) b) k e
-
-pub nonzero_none : (b : List ℕ) (k : ℕ) → length b ≤ k → first_nonzero (drop k b) k ≡ None
-nonzero_none b k h = ap (λ (t : List ℕ). first_nonzero t k) (drop_of_length-le b h)
 
 -- what a kind shows of the n bytes of its parts
 pub record Parts {V : Type 0} (n : ℕ) (parts : V → List ℕ) (offence : List ℕ → Option ℕ) (made : List ℕ → V) : Type 0 where
@@ -78,16 +68,16 @@ get_or_zeros (suc n) zero = refl
 get_or_zeros (suc n) (suc k) = get_or_zeros n k
 
 -- what was accepted did not offend
-accepted : {V : Type 0} (o p : Option ℕ) (w v : V) → value_unless (or_else o p) w ≡ Ok v → (o ≡ None) × (p ≡ None) × (w ≡ v)
-accepted (Some k) p w v e = let z : ◌≡◌ {A = ℕ} 0 1 = cc in absurd (omega arith)
-accepted None (Some k) w v e = let z : ◌≡◌ {A = ℕ} 0 1 = cc in absurd (omega arith)
+accepted : {V : Type 0} (o p : Option ℕ) (w v : V) → value_unless (option_or o p) w ≡ Ok v → (o ≡ None) × (p ≡ None) × (w ≡ v)
+accepted (Some k) p w v e = absurd cc
+accepted None (Some k) w v e = absurd cc
 accepted None None w v e = (refl, refl, cc)
 
 -- what was refused offended there
-refused : {V : Type 0} (o p : Option ℕ) (w : V) (k : ℕ) → value_unless (or_else o p) w ≡ Err k → (o ≡ Some k) ⊎ ((o ≡ None) × (p ≡ Some k))
+refused : {V : Type 0} (o p : Option ℕ) (w : V) (k : ℕ) → value_unless (option_or o p) w ≡ Err k → (o ≡ Some k) ⊎ ((o ≡ None) × (p ≡ Some k))
 refused (Some j) p w k e = inl cc
 refused None (Some j) w k e = inr (refl, cc)
-refused None None w k e = let z : ◌≡◌ {A = ℕ} 0 1 = cc in absurd (omega arith)
+refused None None w k e = absurd cc
 
 -- lists that agree below k begin alike
 same_front : (xs ys : List ℕ) (k : ℕ) → k ≤ length xs → k ≤ length ys → ((j : ℕ) → j < k → slice_index xs j ≡ slice_index ys j) → take k xs ≡ take k ys
@@ -175,23 +165,9 @@ module _ {V : Type 0} {n : ℕ} {parts : V → List ℕ} {offence : List ℕ →
       (λ (h : (offence b ≡ None) × (first_nonzero (drop n b) n ≡ Some k)). zero_offends b k row h.0 h.1)
       (refused (offence b) (first_nonzero (drop n b) n) (made b) k e)
 
--- bytes that do not offend unpack to the value made of them
-pub accepts : {V : Type 0} (n : ℕ) (offence : List ℕ → Option ℕ) (made : List ℕ → V) (b : List ℕ) → offence b ≡ None → first_nonzero (drop n b) n ≡ None → Ok (made b) ≡ unpadded n offence made b
-accepts n offence made b e f = simp (e, f)
-
 -- the first n numbers of a list, one by one
-abbrev pub listed : (ℕ → ℕ) → ℕ → ℕ → List ℕ
-listed f k zero = []
-listed f k (suc n) = f k ∷ listed f (suc k) n
-
-listed_cons : (x : ℕ) (b : List ℕ) (k n : ℕ) → listed (λ i. slice_index (x ∷ b) i) (suc k) n ≡ listed (λ i. slice_index b i) k n
-listed_cons x b k zero = refl
-listed_cons x b k (suc n) = ap (λ (t : List ℕ). slice_index b k ∷ t) (listed_cons x b (suc k) n)
-
-pub take_listed : (n : ℕ) (b : List ℕ) → n ≤ length b → listed (λ i. slice_index b i) 0 n ≡ take n b
-take_listed zero b h = refl
-take_listed (suc n) [] h = absurd (not-suc-le-zero h)
-take_listed (suc n) (x ∷ b) h = ap (λ (t : List ℕ). x ∷ t) (listed_cons x b 0 n ∙ take_listed n b (le_of_suc-le-suc h))
+pub take_listed : (n : ℕ) (b : List ℕ) → n ≤ length b → take n b ≡ map (slice_index b) (range_with_len 0 n)
+take_listed n b h = fill_by_all (slice_index b) (take n b) n 0 (length-take-le n b h) (λ k low. get_or-take n b k 0 low)
 
 -- the two bytes of a number that the limit c does not cut
 pub low_byte : (c x y : ℕ) → x + y * 256 ≤ c → x < 256 → y < 256 → min (x + y * 256) c % 256 ≡ x

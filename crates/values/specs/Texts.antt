@@ -1,6 +1,6 @@
 -- The text of a value, as transcripts print it.
 use Rattle.std.specs.Prelude.{ℕ, List, ◌++◌, codes, decimal}
-use Rattle.values.specs.Timings.{link_number}
+use Rattle.values.specs.Links.{link_number}
 use Rattle.values.specs.declared.level.Level.{Level}
 use Rattle.values.specs.declared.timing.Timing.{Timing}
 

@@ -1,8 +1,10 @@
 -- What timings owe of their seven bytes; the laws of packing follow for every kind.
 use Rattle.std.specs.Prelude.{◌≡◌, ℕ, zero, suc, ◌+◌, ◌/◌, ◌%◌, ◌<◌, ◌≤◌, min, Bool, true, false, cond, leb, ◌⊎◌, List, [], ◌∷◌, take, Some, None, nat_le, slice_index, refl}
 use Rattle.std.proofs.Common.{ap, sym, ◌∙◌, inl, inr, ⊎_elim, arith, rules, leb-true}
-use Rattle.values.specs.Packing.{Bytes16, number_at, or_else}
-use Rattle.values.specs.Timings.{link_of, link_number, timing_parts, timing_offence, timing_made}
+use Rattle.std.specs.Option.{option_or}
+use Rattle.values.specs.Packing.{Bytes16, number_at}
+use Rattle.values.specs.Links.{link_of, link_number}
+use Rattle.values.specs.Timings.{timing_parts, timing_offence, timing_made}
 use Rattle.values.specs.declared.timing.Timing.{Timing}
 use Rattle.values.specs.Padded.{Parts, take_listed, low_byte, high_byte}
 use Rattle.values.specs.Equality.{same_timing}
@@ -21,20 +23,20 @@ pub time_bytes : (b : List ℕ) (k : ℕ) → Bytes16 b → number_at b k ≤ 36
 time_bytes b k row h = (low_byte 36000 _ _ h (row.1 k) (row.1 (k + 1)), high_byte 36000 _ _ h (row.1 k) (row.1 (k + 1)))
 
 -- which part offends first, and which then do not
-pub which : (p q r s : Bool) (k : ℕ) → or_else (cond p None (Some 0)) (or_else (cond q None (Some 2)) (or_else (cond r None (Some 4)) (cond s None (Some 6)))) ≡ Some k
+pub which : (p q r s : Bool) (k : ℕ) → option_or {T = ℕ} (cond p None (Some 0)) (option_or (cond q None (Some 2)) (option_or (cond r None (Some 4)) (cond s None (Some 6)))) ≡ Some k
     → (k ≡ 0) ⊎ (((k ≡ 2) × (p ≡ true)) ⊎ (((k ≡ 4) × (p ≡ true) × (q ≡ true)) ⊎ ((k ≡ 6) × (p ≡ true) × (q ≡ true) × (r ≡ true))))
 which false q r s k e = inl cc
 which true false r s k e = inr (inl (cc, refl))
 which true true false s k e = inr (inr (inl (cc, refl, refl)))
 which true true true false k e = inr (inr (inr (cc, refl, refl, refl)))
-which true true true true k e = let z : ◌≡◌ {A = ℕ} 0 1 = cc in absurd (omega arith)
+which true true true true k e = absurd cc
 
-pub none_offends : (p q r s : Bool) → or_else (cond p None (Some 0)) (or_else (cond q None (Some 2)) (or_else (cond r None (Some 4)) (cond s None (Some 6)))) ≡ None → (p ≡ true) × (q ≡ true) × (r ≡ true) × (s ≡ true)
+pub none_offends : (p q r s : Bool) → option_or {T = ℕ} (cond p None (Some 0)) (option_or (cond q None (Some 2)) (option_or (cond r None (Some 4)) (cond s None (Some 6)))) ≡ None → (p ≡ true) × (q ≡ true) × (r ≡ true) × (s ≡ true)
 none_offends true true true true e = (refl, refl, refl, refl)
-none_offends false q r s e = let z : ◌≡◌ {A = ℕ} 0 1 = cc in absurd (omega arith)
-none_offends true false r s e = let z : ◌≡◌ {A = ℕ} 0 1 = cc in absurd (omega arith)
-none_offends true true false s e = let z : ◌≡◌ {A = ℕ} 0 1 = cc in absurd (omega arith)
-none_offends true true true false e = let z : ◌≡◌ {A = ℕ} 0 1 = cc in absurd (omega arith)
+none_offends false q r s e = absurd cc
+none_offends true false r s e = absurd cc
+none_offends true true false s e = absurd cc
+none_offends true true true false e = absurd cc
 
 pub fronts_at : (b : List ℕ) → Bytes16 b → timing_offence b ≡ None → timing_parts (timing_made b) ≡ take 7 b
 fronts_at b row e =

@@ -1,24 +1,16 @@
 -- Cue timings: three times and a link, their changes, their bytes, and how the host's memory is read.
-use Rattle.std.specs.Prelude.{ℕ, zero, suc, ◌/◌, ◌%◌, min, cond, ◌&&◌, List, [], ◌∷◌, Some, None, Option, Result, nat_le, slice_index}
+use Rattle.std.specs.Prelude.{ℕ, ◌/◌, ◌%◌, min, cond, ◌&&◌, List, [], ◌∷◌, Some, None, Ok, Err, Option, Result, nat_le, slice_index}
 use Rattle.std.proofs.Common.{arith}
-use Rattle.values.specs.Packing.{number_at, padded, unpadded, or_else}
+use Rattle.std.specs.Option.{option_or}
+use Rattle.values.specs.Packing.{number_at, padded, unpadded}
+use Rattle.values.specs.Links.{link_of, link_number}
 use Rattle.values.specs.declared.timing.Timing.{Timing}
-use Rattle.values.specs.declared.timing.Link.{Link}
-use Rattle.values.specs.declared.timing.Link.TheVariants.{ByHand, AfterPrevious, WithPrevious}
-use Rattle.values.specs.declared.timing.TimingNumbers.{TimingNumbers}
+use Rattle.values.specs.declared.timing.link.Link.{Link}
+use Rattle.values.specs.declared.timing.link.Link.TheVariants.{ByHand}
+use Rattle.values.specs.declared.timing.numbers.TimingNumbers.{TimingNumbers}
+use Rattle.values.specs.declared.timing.numbers.NotATiming.{NotATiming}
 use Rattle.values.specs.declared.timing.TimingChange.{TimingChange}
 use Rattle.values.specs.declared.timing.TimingChange.TheVariants as change
-
--- the link of a number 0, 1 or 2
-abbrev pub link_of : ℕ → Link
-link_of zero = ByHand
-link_of (suc zero) = AfterPrevious
-link_of (suc (suc n)) = WithPrevious
-
-abbrev pub link_number : Link → ℕ
-link_number ByHand = 0
-link_number AfterPrevious = 1
-link_number WithPrevious = 2
 
 -- the timing of three times and a link; a time above an hour becomes an hour
 abbrev pub timing : ℕ → ℕ → ℕ → Link → Timing
@@ -51,7 +43,7 @@ link_offence bs = cond (nat_le (slice_index bs 6) 2) None (Some 6)
 
 -- the first part that offends
 abbrev pub timing_offence : List ℕ → Option ℕ
-timing_offence bs = or_else (time_offence bs 0) (or_else (time_offence bs 2) (or_else (time_offence bs 4) (link_offence bs)))
+timing_offence bs = option_or (time_offence bs 0) (option_or (time_offence bs 2) (option_or (time_offence bs 4) (link_offence bs)))
 
 abbrev pub timing_made : List ℕ → Timing
 timing_made bs = timing (number_at bs 0) (number_at bs 2) (number_at bs 4) (link_of (slice_index bs 6))
@@ -68,3 +60,10 @@ timing_reading n =
     cond (nat_le n.up 36000 && nat_le n.down 36000 && nat_le n.wait 36000 && nat_le n.link 2)
     (timing n.up n.down n.wait (link_of n.link))
     (timing 0 0 0 ByHand)
+
+-- the timing of plain numbers, unless no timing has them
+abbrev pub timing_read : TimingNumbers → Result Timing NotATiming
+timing_read n =
+    cond (nat_le n.up 36000 && nat_le n.down 36000 && nat_le n.wait 36000 && nat_le n.link 2)
+    (Ok (timing n.up n.down n.wait (link_of n.link)))
+    (Err (record {}))

@@ -2,14 +2,14 @@
 ghost use Rattle.std.specs.Prelude.{◌<◌};
 
 // The ghost field says in the logic, where numbers have no width, what the type says in the code.
-#[derive(Clone, Copy, PartialEq, Debug)]
+#[derive(Clone, Copy, PartialEq, Eq, Debug)]
 pub struct Level {
     pub value: u16,
     ghost ok: { value < 65536 },
 }
 
 // Up stops at 65,535 and down at 0.
-#[derive(Clone, Copy)]
+#[derive(Clone, Copy, PartialEq, Eq, Debug)]
 pub enum LevelChange {
     Set(u16),
     Up(u16),
@@ -17,6 +17,7 @@ pub enum LevelChange {
 }
 
 mod kind;
+mod number;
 mod text;
 
 pub use kind::Levels;

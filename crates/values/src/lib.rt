@@ -4,5 +4,6 @@
 
 pub mod kind;
 pub mod level;
+pub mod name;
 pub mod packing;
 pub mod timing;

@@ -1,16 +1,8 @@
 // A cue's timing: how long it fades up and down, how long it waits, and what starts it.
 ghost use Rattle.std.specs.Prelude.{◌≤◌};
 
-// What starts a cue: the operator's hand, the end of the previous cue, or the previous cue's own start.
-#[derive(Clone, Copy, PartialEq, Debug)]
-pub enum Link {
-    ByHand,
-    AfterPrevious,
-    WithPrevious,
-}
-
 // Three times in tenths of a second, each at most an hour, and a link.
-#[derive(Clone, Copy, PartialEq, Debug)]
+#[derive(Clone, Copy, PartialEq, Eq, Debug)]
 pub struct Timing {
     pub up: u16,
     pub down: u16,
@@ -19,18 +11,8 @@ pub struct Timing {
     ghost ok: { (up ≤ 36000) × (down ≤ 36000) × (wait ≤ 36000) },
 }
 
-// The plain numbers of a timing in the host's memory; the link is 0 by hand, 1 after the previous cue, 2 with it.
-#[repr(C)]
-#[derive(Clone, Copy, PartialEq, Debug)]
-pub struct TimingNumbers {
-    pub up: u16,
-    pub down: u16,
-    pub wait: u16,
-    pub link: u8,
-}
-
 // Sets one of the four. A time above an hour becomes an hour; a link above 2 leaves the timing as it is.
-#[derive(Clone, Copy)]
+#[derive(Clone, Copy, PartialEq, Eq, Debug)]
 pub enum TimingChange {
     FadeUp(u16),
     FadeDown(u16),
@@ -38,7 +20,14 @@ pub enum TimingChange {
     Link(u8),
 }
 
+// An hour, in tenths of a second.
+const LONGEST: u16 = 36_000;
+
 mod kind;
+mod link;
+mod numbers;
 mod text;
 
 pub use kind::Timings;
+pub use link::{Link, UnknownLink};
+pub use numbers::{NotATiming, TimingNumbers};

@@ -8,20 +8,11 @@ ghost use Rattle.values.specs.Equality.{same_level};
 
 use super::{Level, LevelChange};
 use crate::kind::Kind;
-use crate::packing::first_nonzero;
+use crate::packing::{first_nonzero, number_at};
 
 // The kind of levels.
 #[derive(Clone, Copy)]
 pub struct Levels;
-
-// The level n, or the highest where n is above it.
-fn capped(n: u32) -> Level
-    ensures { result ≡ level n }
-{
-    Level {
-        value: n.min(65_535) as u16,
-    }
-}
 
 impl Kind for Levels {
     type Value = Level;
@@ -63,14 +54,14 @@ impl Kind for Levels {
     }
 
     fn home() -> Level {
-        capped(0)
+        Level::from(0)
     }
 
     fn apply(v: Level, c: LevelChange) -> Level {
         match c {
-            LevelChange::Set(n) => capped(u32::from(n)),
-            LevelChange::Up(n) => capped(u32::from(v.value) + u32::from(n)),
-            LevelChange::Down(n) => capped(u32::from(v.value.saturating_sub(n))),
+            LevelChange::Set(n) => Level::from(n),
+            LevelChange::Up(n) => Level::from(v.value.saturating_add(n)),
+            LevelChange::Down(n) => Level::from(v.value.saturating_sub(n)),
         }
     }
 
@@ -82,15 +73,15 @@ impl Kind for Levels {
     fn unpack(b: [u8; 16]) -> Result<Level, u8> {
         match first_nonzero(b, 2) {
             Some(k) => Err(k),
-            None => Ok(capped(u32::from(u16::from_le_bytes([b[0], b[1]])))),
+            None => Ok(Level::from(number_at(b, 0))),
         }
     }
 
     fn to_numbers(v: Level) -> u16 {
-        v.value
+        u16::from(v)
     }
 
     fn of_numbers(n: u16) -> Level {
-        capped(u32::from(n))
+        Level::from(n)
     }
 }

@@ -1,77 +1,35 @@
 // Cue timings as a kind: kind 2, packed as three 2-byte times, the link byte and 9 zeros.
-ghost use Rattle.std.specs.Prelude.{◌≡◌, ◌+◌, ◌<◌};
-ghost use Rattle.values.specs.Packing.{number_at};
-ghost use Rattle.values.specs.Timings.{timing, timing_applied, timing_packed, timing_unpacked, timing_offence, link_of, link_number, timing_numbers, timing_reading};
+ghost use Rattle.std.specs.Prelude.{◌≡◌, ◌+◌, ◌<◌, slice_index};
+ghost use Rattle.values.specs.Packing.{number_at, value_unless};
+ghost use Rattle.values.specs.Links.{link_of};
+ghost use Rattle.values.specs.Timings.{timing, timing_applied, timing_packed, timing_unpacked, time_offence, link_offence, timing_numbers, timing_reading};
 ghost use Rattle.values.specs.Padded.{size, back, whole, first};
 ghost use Rattle.values.specs.TimingKindLemmas.{parts};
 ghost use Rattle.std.proofs.Common.{rules};
 ghost use Rattle.values.specs.Equality.{same_timing};
 
-use super::{Link, Timing, TimingChange, TimingNumbers};
+use super::{LONGEST, Link, Timing, TimingChange, TimingNumbers};
 use crate::kind::Kind;
-use crate::packing::first_nonzero;
+use crate::packing::{first_nonzero, number_at};
 
 // The kind of cue timings.
 #[derive(Clone, Copy)]
 pub struct Timings;
 
-// An hour, in tenths of a second.
-const LONGEST: u16 = 36_000;
-
-fn link_of(n: u8) -> Link
-    ensures { result ≡ link_of n }
-{
-    match n {
-        0 => Link::ByHand,
-        1 => Link::AfterPrevious,
-        _ => Link::WithPrevious,
-    }
-}
-
-pub(crate) fn link_number(l: Link) -> u8
-    ensures { result ≡ link_number l }
-{
-    match l {
-        Link::ByHand => 0,
-        Link::AfterPrevious => 1,
-        Link::WithPrevious => 2,
-    }
-}
-
-// The timing of three times and a link; a time above an hour becomes an hour.
-fn capped(up: u16, down: u16, wait: u16, link: Link) -> Timing
-    ensures { result ≡ timing up down wait link }
-{
-    Timing {
-        up: up.min(LONGEST),
-        down: down.min(LONGEST),
-        wait: wait.min(LONGEST),
-        link,
-    }
-}
-
-// The number of two bytes whose low one stands at `k`.
-fn number_at(b: [u8; 16], k: usize) -> u16
+// The time whose two bytes stand at `k`, or `k` where it is above an hour.
+fn time_at(b: [u8; 16], k: u8) -> Result<u16, u8>
     requires { k + 1 < 16 }
-    ensures { result ≡ number_at b k }
+    ensures { result ≡ value_unless (time_offence b k) (number_at b k) }
 {
-    u16::from_le_bytes([b[k], b[k + 1]])
+    let time = number_at(b, usize::from(k));
+    if time <= LONGEST { Ok(time) } else { Err(k) }
 }
 
-// The first byte of the first time that is too long, or the place of a link that is none.
-fn offence(b: [u8; 16]) -> Option<u8>
-    ensures { result ≡ timing_offence b }
+// The link, or its place where its byte is no link's number.
+fn link_at(b: [u8; 16]) -> Result<Link, u8>
+    ensures { result ≡ value_unless (link_offence b) (link_of (slice_index b 6)) }
 {
-    if number_at(b, 0) > LONGEST {
-        return Some(0);
-    }
-    if number_at(b, 2) > LONGEST {
-        return Some(2);
-    }
-    if number_at(b, 4) > LONGEST {
-        return Some(4);
-    }
-    if b[6] > 2 { Some(6) } else { None }
+    Link::try_from(b[6]).map_err(|_| 6)
 }
 
 impl Kind for Timings {
@@ -114,21 +72,22 @@ impl Kind for Timings {
     }
 
     fn home() -> Timing {
-        capped(0, 0, 0, Link::ByHand)
+        Timing {
+            up: 0,
+            down: 0,
+            wait: 0,
+            link: Link::ByHand,
+        }
     }
 
-    fn apply(v: Timing, c: TimingChange) -> Timing {
+    fn apply(mut v: Timing, c: TimingChange) -> Timing {
         match c {
-            TimingChange::FadeUp(n) => capped(n, v.down, v.wait, v.link),
-            TimingChange::FadeDown(n) => capped(v.up, n, v.wait, v.link),
-            TimingChange::Wait(n) => capped(v.up, v.down, n, v.link),
-            TimingChange::Link(n) => capped(
-                v.up,
-                v.down,
-                v.wait,
-                if n <= 2 { link_of(n) } else { v.link },
-            ),
+            TimingChange::FadeUp(n) => v.up = n.min(LONGEST),
+            TimingChange::FadeDown(n) => v.down = n.min(LONGEST),
+            TimingChange::Wait(n) => v.wait = n.min(LONGEST),
+            TimingChange::Link(n) => v.link = Link::try_from(n).unwrap_or(v.link),
         }
+        v
     }
 
     fn pack(v: Timing) -> [u8; 16] {
@@ -142,7 +101,7 @@ impl Kind for Timings {
             down_high,
             wait_low,
             wait_high,
-            link_number(v.link),
+            u8::from(v.link),
             0,
             0,
             0,
@@ -156,33 +115,26 @@ impl Kind for Timings {
     }
 
     fn unpack(b: [u8; 16]) -> Result<Timing, u8> {
-        if let Some(k) = offence(b) {
-            return Err(k);
+        let up = time_at(b, 0)?;
+        let down = time_at(b, 2)?;
+        let wait = time_at(b, 4)?;
+        let link = link_at(b)?;
+        match first_nonzero(b, 7) {
+            Some(k) => Err(k),
+            None => Ok(Timing {
+                up,
+                down,
+                wait,
+                link,
+            }),
         }
-        if let Some(k) = first_nonzero(b, 7) {
-            return Err(k);
-        }
-        Ok(capped(
-            number_at(b, 0),
-            number_at(b, 2),
-            number_at(b, 4),
-            link_of(b[6]),
-        ))
     }
 
     fn to_numbers(v: Timing) -> TimingNumbers {
-        TimingNumbers {
-            up: v.up,
-            down: v.down,
-            wait: v.wait,
-            link: link_number(v.link),
-        }
+        TimingNumbers::from(v)
     }
 
     fn of_numbers(n: TimingNumbers) -> Timing {
-        if n.up > LONGEST || n.down > LONGEST || n.wait > LONGEST || n.link > 2 {
-            return Self::home();
-        }
-        capped(n.up, n.down, n.wait, link_of(n.link))
+        Timing::try_from(n).unwrap_or(Self::home())
     }
 }

@@ -3,17 +3,19 @@ ghost use Rattle.std.specs.Prelude.{Some};
 ghost use Rattle.values.specs.Texts.{timing_text};
 
 use super::Timing;
-use super::kind::link_number;
 use std::fmt;
 
 impl fmt::Display for Timing {
     ghost output = { λ v. Some (timing_text v) };
 
     fn fmt<W: fmt::Write>(&self, f: &mut fmt::Formatter<W>) -> fmt::Result {
-        let up = self.up;
-        let down = self.down;
-        let wait = self.wait;
-        let link = link_number(self.link);
+        let Timing {
+            up,
+            down,
+            wait,
+            link,
+        } = *self;
+        let link = u8::from(link);
         write!(f, "{up}/{down}/{wait}/{link}")
     }
 }

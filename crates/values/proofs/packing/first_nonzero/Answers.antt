@@ -1,12 +1,11 @@
-use Rattle.std.proofs.Common.{sym, ◌∙◌, rules}
-use Rattle.values.specs.Padded.{nonzero_more, nonzero_found, nonzero_none}
+use Rattle.std.proofs.Common.{◌≡◌, ◌≢◌, slice_index, rules}
+use Rattle.std.proofs.lemmas.Iterator.{first_from_Range}
+use borrow.Author.Tests.{tests}
+use Rattle.values.proofs.Nonzero.{first_is}
 use Rattle.values.proofs.packing.first_nonzero.Goals as goal
 
-pub returns-then-b-k-ne0 : goal.returns-then-b-k-ne0
-returns-then-b-k-ne0 c = sym (nonzero_found c.args.b c.loop-k.k (search rules) c.if-b-k-ne0.true) ∙ c.loop-k.invariant
-
-pub loop-k-preserved : goal.loop-k-preserved
-loop-k-preserved c = nonzero_more c.args.b c.loop-k.k (search rules) c.if-b-k-ne0.false ∙ c.loop-k.invariant
-
 pub returns : goal.returns
-returns c = sym (nonzero_none c.args.b c.loop-k.k (search rules)) ∙ c.loop-k.invariant
+returns c =
+    let b = c.args.b in
+    first_is b c.args.start 16 c.find.result (search rules)
+    (first_from_Range _ _ _ c.find.result (λ k. slice_index b k ≢ 0) (λ k. slice_index b k ≡ 0) c.find.ensures.ran (λ x q k. search (rules, tests)) (λ x q k. search (rules, tests)))

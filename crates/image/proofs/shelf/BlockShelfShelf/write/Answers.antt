@@ -1,5 +1,4 @@
 use Rattle.std.proofs.Common.{◌≡◌, ◌<◌, ◌≤◌, length, is_ok, sym, refl, ap, ◌∙◌, subst, rules}
-use Rattle.shelves.proofs.Places.{accepted_below, refused_past}
 use Rattle.image.specs.Images.{row_count, image_rows, row_written}
 use Rattle.image.specs.Sound.{Sound}
 use Rattle.image.proofs.RowsWritten.{rows_below, rows_past, rows_written, rows_stay, written_inside, written_past}
@@ -15,7 +14,7 @@ returns-then-n-rows_in g c =
     let back = g.met.K.Kind.unpacks_packed v in
     let put = c.put.ensures ∙ ap (row_written image n) c.pack.ensures in
     record {
-      answer = accepted_below (image_rows home unpacked image) n (rows_below home unpacked image n h);
+      answer = let below = rows_below home unpacked image n h in search rules;
       after = ap (image_rows home unpacked) put ∙ rows_written home unpacked image n (g.K.Kind.packed v) v h size back;
       memory = refl;
       bytes = put ∙ written_inside image n (g.K.Kind.packed v) h;
@@ -28,7 +27,7 @@ returns-else-n-rows_in g c =
     let image = c.args.self.now.image.now in let n = c.args.n in
     let h : row_count (length image) ≤ n = search rules in
     record {
-      answer = refused_past (image_rows home unpacked image) n (record {}) (rows_past home unpacked image n h);
+      answer = let past = rows_past home unpacked image n h in search rules;
       after = rows_stay home unpacked image n c.args.v h;
       memory = refl;
       bytes = written_past image n (g.K.Kind.packed c.args.v) h;
