@@ -1,12 +1,7 @@
 // What the command line asks for: plot [KIND [BLOCKS [FILE]]].
-use anyhow::anyhow;
+use anyhow::{Context, anyhow};
 use std::env::Args;
-
-#[derive(Clone, Copy)]
-pub(crate) enum KindName {
-    Level,
-    Timing,
-}
+use values::name::KindName;
 
 #[derive(Drop)]
 pub(crate) struct Asked {
@@ -17,18 +12,16 @@ pub(crate) struct Asked {
 }
 
 fn kind_named(word: &str) -> anyhow::Result<KindName> {
-    match word {
-        "level" => Ok(KindName::Level),
-        "timing" => Ok(KindName::Timing),
-        _ => Err(anyhow!("the first word is the kind: level or timing")),
-    }
+    word.parse()
+        .ok()
+        .context("the first word is the kind: level or timing")
 }
 
 fn block_count(word: &str) -> anyhow::Result<u8> {
-    match word.parse::<u8>() {
-        Ok(n) if 1 <= n && n <= 64 => Ok(n),
-        _ => Err(anyhow!("the second word is the number of blocks: 1 to 64")),
-    }
+    word.parse()
+        .ok()
+        .filter(|n| (1..=64).contains(n))
+        .context("the second word is the number of blocks: 1 to 64")
 }
 
 pub(crate) fn read_words(mut words: Args) -> anyhow::Result<Asked> {

@@ -6,39 +6,40 @@ mod asked;
 mod saving;
 mod task;
 
-use asked::{Asked, KindName, read_words};
+use asked::read_words;
 use std::env;
 use std::process::ExitCode;
 use task::run_task;
 use values::kind::Kind;
 use values::level::{Level, LevelChange, Levels};
+use values::name::KindName;
 use values::timing::{Timing, TimingChange, Timings};
 
 // A level that is set, one that stops at the highest, and one that stops at 0.
 fn some_levels() -> [Level; 3] {
-    let high = <Levels as Kind>::apply(<Levels as Kind>::home(), LevelChange::Set(60_000));
+    let high = Levels::apply(Levels::home(), LevelChange::Set(60_000));
     [
-        <Levels as Kind>::apply(<Levels as Kind>::home(), LevelChange::Set(25_700)),
-        <Levels as Kind>::apply(high, LevelChange::Up(10_000)),
-        <Levels as Kind>::apply(high, LevelChange::Down(65_535)),
+        Levels::apply(Levels::home(), LevelChange::Set(25_700)),
+        Levels::apply(high, LevelChange::Up(10_000)),
+        Levels::apply(high, LevelChange::Down(65_535)),
     ]
 }
 
 // A fade up of five seconds, a fade down that stops at an hour, and a cue that starts with the previous one.
 fn some_timings() -> [Timing; 3] {
-    let home = <Timings as Kind>::home();
+    let home = Timings::home();
     [
-        <Timings as Kind>::apply(home, TimingChange::FadeUp(50)),
-        <Timings as Kind>::apply(home, TimingChange::FadeDown(40_000)),
-        <Timings as Kind>::apply(home, TimingChange::Link(2)),
+        Timings::apply(home, TimingChange::FadeUp(50)),
+        Timings::apply(home, TimingChange::FadeDown(40_000)),
+        Timings::apply(home, TimingChange::Link(2)),
     ]
 }
 
 fn run(rt: &HostRuntime) -> anyhow::Result<()> {
-    let Asked { kind, blocks, file } = read_words(env::args(rt)?)?;
-    match kind {
-        KindName::Level => run_task::<Levels>(rt, "level", blocks, &file, some_levels()),
-        KindName::Timing => run_task::<Timings>(rt, "timing", blocks, &file, some_timings()),
+    let asked = read_words(env::args(rt)?)?;
+    match asked.kind {
+        KindName::Level => run_task::<Levels>(rt, &asked, some_levels()),
+        KindName::Timing => run_task::<Timings>(rt, &asked, some_timings()),
     }
 }
 
@@ -46,7 +47,7 @@ fn main(rt: HostRuntime) -> anyhow::Result<ExitCode> {
     match run(&rt) {
         Ok(()) => Ok(ExitCode::SUCCESS),
         Err(e) => {
-            eprintln!(rt; "plot: {e}")?;
+            eprintln!(rt; "plot: {e:#}")?;
             Ok(ExitCode::FAILURE)
         }
     }

@@ -1,20 +1,11 @@
 // The image in a file: never over a file that is there already, and never half written.
-use anyhow::anyhow;
+use anyhow::{Context, anyhow};
 use std::fs::File;
 use std::io::Write;
 use std::{fs, io};
 
-// What went wrong, with the file that it went wrong at.
-fn at_file(rt: &HostRuntime, path: &str, done: io::Result<()>) -> anyhow::Result<()> {
-    match done {
-        Ok(()) => Ok(()),
-        Err(e) => Err(anyhow!(format!(in rt.alloc(); "{path}: {e}")?)),
-    }
-}
-
 fn write_new(rt: &HostRuntime, path: &str, image: &[u8]) -> io::Result<()> {
-    let mut file = File::create_new(rt, path)?;
-    file.write_all(image)
+    File::create_new(rt, path)?.write_all(image)
 }
 
 // Writes a new file; one that is there already is left as it is.
@@ -22,7 +13,7 @@ pub(crate) fn save_new(rt: &HostRuntime, path: &str, image: &[u8]) -> anyhow::Re
     if fs::exists(rt, path)? {
         return Err(anyhow!("the file is there already and was left as it is: name a new one"));
     }
-    at_file(rt, path, write_new(rt, path, image))
+    write_new(rt, path, image).context(path)
 }
 
 fn replace(rt: &HostRuntime, path: &str, image: &[u8]) -> io::Result<()> {
@@ -33,5 +24,5 @@ fn replace(rt: &HostRuntime, path: &str, image: &[u8]) -> io::Result<()> {
 
 // Writes beside the file and then takes its place, so that a write that fails leaves the old file.
 pub(crate) fn save(rt: &HostRuntime, path: &str, image: &[u8]) -> anyhow::Result<()> {
-    at_file(rt, path, replace(rt, path, image))
+    replace(rt, path, image).context(path)
 }

@@ -8,6 +8,7 @@ ghost use Rattle.plot_image.specs.Host.{host_check, host_number, fault_block, fa
 use image::check::{image_check, is_whole};
 use image::fault::Fault;
 use values::level::Levels;
+use values::name::KindName;
 use values::timing::Timings;
 
 // Checks an image whose kind is told by its number. A number that no kind has is a fault of block 0, after a wrong
@@ -17,16 +18,11 @@ pub fn check_as(image: &[u8], kind: u32) -> Result<(), Fault>
     ensures passes { result ≡ Ok tt → SoundOf kind image.now }
     ensures only { SoundOf kind image.now → result ≡ Ok tt }
 {
-    match kind {
-        1 => image_check::<Levels>(image),
-        2 => image_check::<Timings>(image),
-        _ => {
-            if is_whole(image.len()) {
-                Err(Fault::Kind { block: 0 })
-            } else {
-                Err(Fault::Length)
-            }
-        }
+    match KindName::try_from(kind) {
+        Ok(KindName::Level) => image_check::<Levels>(image),
+        Ok(KindName::Timing) => image_check::<Timings>(image),
+        Err(_) if is_whole(image.len()) => Err(Fault::Kind { block: 0 }),
+        Err(_) => Err(Fault::Length),
     }
 }
 
