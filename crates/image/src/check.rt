@@ -18,9 +18,9 @@ pub fn is_whole(length: usize) -> bool
 
 // Checks an image of kind K. An image passes just when it is sound.
 pub fn image_check<K: Kind>(image: &[u8]) -> Result<(), Fault>
-    ensures answer { result ≡ image_check K.Kind.code K.Kind.unpacked image.now }
-    ensures passes { result ≡ Ok tt → Sound K.Kind.code K.Kind.unpacked image.now }
-    ensures only { Sound K.Kind.code K.Kind.unpacked image.now → result ≡ Ok tt }
+    ensures answer { result ≡ image_check K.Kind.NUMBER K.Kind.unpacked image.now }
+    ensures passes { result ≡ Ok tt → Sound K.Kind.NUMBER K.Kind.unpacked image.now }
+    ensures only { Sound K.Kind.NUMBER K.Kind.unpacked image.now → result ≡ Ok tt }
 {
     if !is_whole(image.len()) {
         return Err(Fault::Length);
@@ -30,7 +30,7 @@ pub fn image_check<K: Kind>(image: &[u8]) -> Result<(), Fault>
 
 fn check_blocks<K: Kind>(image: &[u8]) -> Result<(), Fault>
     requires { whole_blocks (length image.now) ≡ true }
-    ensures { result ≡ blocks_check K.Kind.code K.Kind.unpacked image.now }
+    ensures { result ≡ blocks_check K.Kind.NUMBER K.Kind.unpacked image.now }
 {
     let count = (image.len() / 512) as u8;
     for q in 0..count {
@@ -42,12 +42,12 @@ fn check_blocks<K: Kind>(image: &[u8]) -> Result<(), Fault>
 
 fn check_block<K: Kind>(block: &[u8], q: u8) -> Result<(), Fault>
     requires { length block.now ≡ 512 }
-    ensures { result ≡ block_check K.Kind.code K.Kind.unpacked q block.now }
+    ensures { result ≡ block_check K.Kind.NUMBER K.Kind.unpacked q block.now }
 {
     if !number_is(block, q) {
         return Err(Fault::Number { block: q });
     }
-    if !kind_is(block, K::code()) {
+    if !kind_is(block, K::NUMBER) {
         return Err(Fault::Kind { block: q });
     }
     if !is_clear(block) {

@@ -13,13 +13,13 @@ use values::kind::Kind;
 pub fn new_image<K: Kind>(image: &mut [u8]) -> Result<(), Fault>
     ensures answer { result ≡ length_check (length image.old) }
     ensures refused { whole_blocks (length image.old) ≡ false → image.new ≡ image.old }
-    ensures made { whole_blocks (length image.old) ≡ true → Filled K.Kind.code (K.Kind.packed K.Kind.home) image.new }
-    ensures sound { whole_blocks (length image.old) ≡ true → Sound K.Kind.code K.Kind.unpacked image.new }
+    ensures made { whole_blocks (length image.old) ≡ true → Filled K.Kind.NUMBER (K.Kind.packed K.Kind.home) image.new }
+    ensures sound { whole_blocks (length image.old) ≡ true → Sound K.Kind.NUMBER K.Kind.unpacked image.new }
 {
     if !is_whole(image.len()) {
         return Err(Fault::Length);
     }
-    new_blocks(image, K::code(), &K::pack(K::home()));
+    new_blocks(image, K::NUMBER, &K::pack(K::home()));
     Ok(())
 }
 

@@ -20,7 +20,7 @@ impl<'a, K: Kind> Shelf<K> for BlockShelf<'a> {
 
     ghost memory = { λ s. s.image.ghost_name ∷ [] };
 
-    ghost sound = { λ s. Sound K.Kind.code K.Kind.unpacked s.image.now };
+    ghost sound = { λ s. Sound K.Kind.NUMBER K.Kind.unpacked s.image.now };
 
     fn count(&self) -> usize {
         rows_in(self.image.len())
@@ -42,7 +42,7 @@ impl<'a, K: Kind> Shelf<K> for BlockShelf<'a> {
         ensures answer { result ≡ write_answer (image_rows K.Kind.home K.Kind.unpacked self.old.image.now) n }
         ensures after { image_rows K.Kind.home K.Kind.unpacked self.new.image.now ≡ slice_set (image_rows K.Kind.home K.Kind.unpacked self.old.image.now) n v }
         ensures memory { self.new.image.ghost_name ∷ [] ≡ self.old.image.ghost_name ∷ [] }
-        ensures sound { Sound K.Kind.code K.Kind.unpacked self.old.image.now → Sound K.Kind.code K.Kind.unpacked self.new.image.now }
+        ensures sound { Sound K.Kind.NUMBER K.Kind.unpacked self.old.image.now → Sound K.Kind.NUMBER K.Kind.unpacked self.new.image.now }
         ensures bytes { self.new.image.now ≡ image_written self.old.image.now n (K.Kind.packed v) }
     {
         if n < rows_in(self.image.len()) {

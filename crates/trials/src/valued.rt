@@ -1,7 +1,9 @@
-// The two kinds at their limits, and the byte that a refusal names.
+// The two kinds at their limits, the byte that a refusal names, and kinds and links by number and by word.
+use std::test::Fail;
 use values::kind::Kind;
 use values::level::{Level, LevelChange, Levels};
-use values::timing::{TimingChange, Timings};
+use values::name::{KindName, UnknownKind, UnknownWord};
+use values::timing::{Link, TimingChange, Timings, UnknownLink};
 
 fn with(mut bytes: [u8; 16], at: usize, byte: u8) -> [u8; 16] {
     if at < 16 {
@@ -68,4 +70,26 @@ fn timings_name_the_first_bad_byte(rt: HostRuntime) {
     ] {
         assert_eq!(rt; Timings::unpack(with(home, at, byte)), Err(named));
     }
+}
+
+#[test]
+fn kinds_are_named(rt: HostRuntime) -> Result<(), Fail> {
+    assert_eq!(rt; KindName::try_from(2u32), Ok(KindName::Timing));
+    assert_eq!(rt; KindName::try_from(3u32), Err(UnknownKind(3)));
+    assert_eq!(rt; u32::from(KindName::Level), 1);
+    assert_eq!(rt; "timing".parse::<KindName>(), Ok(KindName::Timing));
+    assert_eq!(rt; "Timing".parse::<KindName>(), Err(UnknownWord));
+    assert_eq!(rt; KindName::Level.to_string(rt.alloc())?.as_str(), "level");
+    assert_eq!(rt; UnknownWord.to_string(rt.alloc())?.as_str(), "level or timing");
+    assert_eq!(rt; UnknownKind(3).to_string(rt.alloc())?.as_str(), "no kind has number 3");
+    Ok(())
+}
+
+#[test]
+fn links_have_numbers(rt: HostRuntime) -> Result<(), Fail> {
+    assert_eq!(rt; Link::try_from(2u8), Ok(Link::WithPrevious));
+    assert_eq!(rt; Link::try_from(3u8), Err(UnknownLink(3)));
+    assert_eq!(rt; u8::from(Link::AfterPrevious), 1);
+    assert_eq!(rt; UnknownLink(3).to_string(rt.alloc())?.as_str(), "no link has number 3");
+    Ok(())
 }

@@ -11,11 +11,10 @@ pub trait Kind {
     // The plain numbers of a value, as a host keeps them in memory.
     type Numbers: Copy;
 
-    // The number by which an image says of which kind its rows are.
+    // The number by which an image says of which kind its rows are, in the code and in contracts.
     const NUMBER: u8;
 
-    // NUMBER again, for contracts of generic code.
-    ghost code: { ℕ };
+    ghost NUMBER: { ℕ };
 
     // The value that a record of a new show has.
     ghost home: { Self.Value };
@@ -33,9 +32,6 @@ pub trait Kind {
     ghost numbers: { Self.Value → Self.Numbers };
 
     ghost reading: { Self.Numbers → Self.Value };
-
-    fn code() -> u8
-        ensures { result ≡ code };
 
     fn home() -> Self::Value
         ensures { result ≡ home };

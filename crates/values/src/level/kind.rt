@@ -23,7 +23,7 @@ impl Kind for Levels {
 
     const NUMBER: u8 = 1;
 
-    ghost code = { 1 };
+    ghost NUMBER = { 1 };
 
     ghost home = { level 0 };
 
@@ -48,10 +48,6 @@ impl Kind for Levels {
     ghost reads_numbers = { λ v. let h : v.value < 65536 = v.ok in same_level _ _ (Prim.search rules) };
 
     ghost other_numbers = { Prim.search rules };
-
-    fn code() -> u8 {
-        Self::NUMBER
-    }
 
     fn home() -> Level {
         Level::from(0)

@@ -41,7 +41,7 @@ impl Kind for Timings {
 
     const NUMBER: u8 = 2;
 
-    ghost code = { 2 };
+    ghost NUMBER = { 2 };
 
     ghost home = { timing 0 0 0 (link_of 0) };
 
@@ -66,10 +66,6 @@ impl Kind for Timings {
     ghost reads_numbers = { λ v. same_timing _ _ (Prim.search rules) (Prim.search rules) (Prim.search rules) (Prim.search rules) };
 
     ghost other_numbers = { Prim.search rules };
-
-    fn code() -> u8 {
-        Self::NUMBER
-    }
 
     fn home() -> Timing {
         Timing {

@@ -6,7 +6,7 @@ use Rattle.image.proofs.check.image_check.Goals as goal
 
 pub returns : goal.returns
 returns g c =
-    let kind = g.K.Kind.code in let unpacked = g.K.Kind.unpacked in let image = c.args.image.now in
+    let kind = g.K.Kind.NUMBER in let unpacked = g.K.Kind.unpacked in let image = c.args.image.now in
     let e : c.check_blocks.result ≡ image_check kind unpacked image = c.check_blocks.ensures ∙ ap (λ (b : Bool). cond b (blocks_check kind unpacked image) (Err Length)) c.if-not-is_whole.ensures in
     record {
       answer = e;

@@ -26,10 +26,10 @@ returns-then-not-is_whole g c =
 pub returns : goal.returns
 returns g c =
     let yes = c.if-not-is_whole.ensures in
-    let unpacked = g.K.Kind.unpacked in let kind = g.K.Kind.code in
+    let unpacked = g.K.Kind.unpacked in let kind = g.K.Kind.NUMBER in
     let row = c.pack.ensures ∙ ap g.K.Kind.packed c.home.ensures in
     let made : Filled kind (g.K.Kind.packed g.K.Kind.home) c.new_blocks.new.image =
-    filled_as kind _ c.new_blocks.new.image c.code.ensures row c.new_blocks.ensures in
+    filled_as kind _ c.new_blocks.new.image c.NUMBER.ensures row c.new_blocks.ensures in
     record {
       answer = answered _ _ yes;
       refused = λ no. absurd (both_ways _ no (sym yes));

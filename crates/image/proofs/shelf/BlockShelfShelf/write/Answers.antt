@@ -18,7 +18,7 @@ returns-then-n-rows_in g c =
       after = ap (image_rows home unpacked) put ∙ rows_written home unpacked image n (g.K.Kind.packed v) v h size back;
       memory = refl;
       bytes = put ∙ written_inside image n (g.K.Kind.packed v) h;
-      sound = λ s. subst (Sound g.K.Kind.code unpacked) (sym put) (written_image_of g.K.Kind.code (λ b. is_ok (unpacked b) ≡ _) image n (g.K.Kind.packed v) h size (ap is_ok back) s);
+      sound = λ s. subst (Sound g.K.Kind.NUMBER unpacked) (sym put) (written_image_of g.K.Kind.NUMBER (λ b. is_ok (unpacked b) ≡ _) image n (g.K.Kind.packed v) h size (ap is_ok back) s);
     }
 
 pub returns-else-n-rows_in : goal.returns-else-n-rows_in
