@@ -1,22 +1,21 @@
 -- How the table and what was observed belong together, and how one call carries that on.
-use Rattle.std.proofs.Common.{◌≡◌, ℕ, suc, ◌<◌, ◌≤◌, Bool, true, false, cond, eqb, leb, ◌⊎◌, List, [], length, Some, None, Option, sym, refl, ap, ◌∙◌, inl, inr, arith}
-use Rattle.std.proofs.lemmas.Bool.{eq-eqb, ne_eqb, cases_eq, leb-true, leb-false}
+use Rattle.std.proofs.Common.{◌≡◌, ℕ, suc, ◌<◌, ◌≤◌, true, false, cond, eqb, List, [], length, Some, None, Option, sym, ap, ◌∙◌, inl, inr, arith}
+use Rattle.std.proofs.lemmas.Bool.{cond_both, cases_lt}
+use Rattle.std.proofs.lemmas.Bool.Decides.{nat_tests}
 use Rattle.rules.specs.declared.Mode.{Mode}
 use Rattle.rules.specs.declared.State.{State}
 use Rattle.rules.specs.declared.Call.{Call}
 use Rattle.rules.specs.declared.Call.TheVariants.{Standing}
 use Rattle.rules.specs.declared.Answer.{Answer}
 use Rattle.rules.specs.declared.Answer.TheVariants.{Refused, Stands}
-use Rattle.rules.specs.Tables.{Hold, Phase, idle, running, wounded, waiting, Stations, Table, hold_mode, is_idle, is_waiting, works, hold_on, older}
+use Rattle.rules.specs.Tables.{Hold, Phase, idle, running, waiting, Stations, Table, hold_mode, is_waiting, works, hold_on, older}
 use Rattle.rules.specs.Operations.{granted_station, settle}
 use Rattle.rules.specs.Calls.{state_of, stamp_of, standing_of}
-use Rattle.rules.proofs.Searches.{contradiction}
 use Rattle.law.specs.Observer.{View, state_in, stamp_in, working, turned, state, stamp, at_work, older_than, caller, Entry, Event, nothing, told, event, Attempt, fresh, granted_of, with_grant, continued, followed, predecessors_at, with_predecessors, Observation, commits_after, heard, observe}
 use Rattle.law.specs.Alone.{all_left, AllAgree}
 use Rattle.law.proofs.Invariants.{Invariant, works_not_idle, resting_waits_not, mode_granted, Blocked}
 use Rattle.law.proofs.SerialOrder.{Replays, nothing_replays}
 use Rattle.law.proofs.Promotion.{StaysOrGranted, stays, is_granted, Promoting, settling_keeps, settling_blocks, settling_works, settling_replays}
-use Rattle.rules.proofs.Admission.{idle_if}
 use Rattle.rules.specs.declared.Refusal.TheVariants as refusal
 
 -- the mode of a hold, if there is one
@@ -26,17 +25,11 @@ held_mode (Some h) = Some (hold_mode h)
 
 -- who stays in its state does not turn from waiting to running
 pub turned_not : (p : Phase) → turned (state_of p) (state_of p) ≡ false
-turned_not idle = refl
-turned_not running = refl
-turned_not wounded = refl
-turned_not (waiting r m) = refl
+turned_not p = grind arith
 
 -- the observer takes for at work who is at work
 pub working_works : (p : Phase) → working (state_of p) ≡ works p
-working_works idle = refl
-working_works running = refl
-working_works wounded = refl
-working_works (waiting r m) = refl
+working_works p = grind arith
 
 module _ {V C : Type 0} (apply : V → C → V) where
   -- what was observed of the attempt of station i is so in the table
@@ -52,8 +45,7 @@ module _ {V C : Type 0} (apply : V → C → V) where
       record {
         replays = nothing_replays apply t show i e;
         holds_observed = λ r. rw e;
-        wait_observed = λ r m f. contradiction true
-            refl (rw f at w);
+        wait_observed = λ r m f. cc (rw f at w);
       }
 
   -- an attempt matches by its entries, its holds and its wait alone
@@ -73,16 +65,11 @@ module _ {V C : Type 0} (apply : V → C → V) where
       → (show : ℕ → V) (i n : ℕ) (was : State) (ev : Event V C) (a : Attempt V C)
       → (works (t i).phase ≡ true → Matches t show i (continued n was (state_of (t i).phase) ev a))
       → Matches t show i (followed n was (state_of (t i).phase) ev a)
-  followed_matches {t} v show i n was ev a k = go (t i).phase refl
-    where
-      rest : works (t i).phase ≡ false → Matches t show i (fresh 0)
-      rest e = fresh_matches t show i 0 (v.empty_handed i e) (resting_waits_not (t i).phase e)
-
-      go : (p : Phase) → (t i).phase ≡ p → Matches t show i (followed n was (state_of p) ev a)
-      go idle e = rest (rw e)
-      go running e = rw e at (k (rw e))
-      go wounded e = rest (rw e)
-      go (waiting r m) e = rw e at (k (rw e))
+  followed_matches {t} v show i n was ev a k =
+      cond_both (working (state_of (t i).phase)) (continued n was (state_of (t i).phase) ev a) (fresh 0) (Matches t show i)
+      (λ b. k (sym (working_works (t i).phase) ∙ b))
+      (λ b. let e = sym (working_works (t i).phase) ∙ b in
+      fresh_matches t show i 0 (v.empty_handed i e) (resting_waits_not (t i).phase e))
 
   -- a station that is as it was, and of which nothing was told
   pub untouched_matches : (t t' : Stations V) (show : ℕ → V) (i n : ℕ) (ev : Event V C) (a : Attempt V C) → t' i ≡ t i
@@ -108,15 +95,12 @@ module _ {V C : Type 0} (apply : V → C → V) where
       rw (same, k.wait_observed r m w)
       (record {
         replays = f;
-        holds_observed = λ q. rw e (by q (cases_eq q r));
-        wait_observed = λ q mq wq. contradiction true refl
-            (let x : running ≡ waiting q mq = rw e at wq in cc);
+        holds_observed = λ q. rw e (by q);
+        wait_observed = λ q mq wq. let x : running ≡ waiting q mq = rw e at wq in cc;
       })
     where
-      by : (q : ℕ) → (q ≡ r) ⊎ (q ≡ r → ⊥)
-          → cond (eqb q r) (Some m) (a.held q) ≡ held_mode (hold_on q (granted_station (t i) r m d).hand)
-      by q (inl eq) = rw (eq-eqb q r eq, eq-eqb r q (sym eq), mode_granted m d)
-      by q (inr nq) = rw (ne_eqb q r nq, ne_eqb r q (λ x. nq (sym x))) (k.holds_observed q)
+      by : (q : ℕ) → cond (eqb q r) (Some m) (a.held q) ≡ held_mode (hold_on q (granted_station (t i) r m d).hand)
+      by q = grind (arith, nat_tests, mode_granted m d, k.holds_observed q)
 
   -- what is so after settling t, if each attempt at work matched before
   pub record Settled (t u : Stations V) (next records : ℕ) (show : ℕ → V) (attempts : ℕ → Attempt V C) : Type 0 where
@@ -151,11 +135,8 @@ module _ {V C : Type 0} (apply : V → C → V) where
       entries_at_work i b = rw b
 
       replays : (i : ℕ) → Replays apply t show i (entries i)
-      replays i = go (works (t i).phase) refl
-        where
-          go : (b : Bool) → works (t i).phase ≡ b → Replays apply t show i (cond b (attempts i).entries [])
-          go true e = (k i e).replays
-          go false e = nothing_replays apply t show i (v.empty_handed i e)
+      replays i = cond_both (works (t i).phase) (attempts i).entries [] (Replays apply t show i) (λ e. (k i e).replays)
+          (λ e. nothing_replays apply t show i (v.empty_handed i e))
 
   -- an attempt of which nothing was told, after settling
   pub settled_untold : (u : Stations V) (show : ℕ → V) (i n : ℕ) (ev : Event V C) (a : Attempt V C) (p p' : Phase) (is : State)
@@ -174,16 +155,11 @@ module _ {V C : Type 0} {w : View V C} {t : Table V} (tells : Tells w t) {next r
     (v : Invariant t.stations next records) where
   -- the state told is the table's
   pub state_told : (i : ℕ) → state w i ≡ state_of (t.stations i).phase
-  state_told i = go (leb 16 i) refl
-    where
-      beyond : 16 ≤ i → (b : Bool) → is_idle (t.stations i).phase ≡ b → (t.stations i).phase ≡ idle
-      beyond l true e = idle_if (t.stations i).phase e
-      beyond l false e = absurd (omega (arith, v.in_range i e))
-
-      go : (b : Bool) → leb 16 i ≡ b → state w i ≡ state_of (t.stations i).phase
-      go false e = ap state_in (tells.standing_told i (leb-false 16 i e))
-      go true e = ap state_in (tells.standing_refused i (leb-true 16 i e)) ∙ ap state_of
-          (sym (beyond (leb-true 16 i e) (is_idle (t.stations i).phase) refl))
+  state_told i = elim (cases_lt i 16) [
+    | inl l ↦ ap state_in (tells.standing_told i l)
+    | inr l ↦ (let none : (t.stations i).phase ≡ idle = grind (arith, v.in_range i) in
+        ap state_in (tells.standing_refused i l) ∙ sym (ap state_of none))
+  ]
 
   -- who is told to be at work is
   pub at_work_told : (i : ℕ) → at_work w i ≡ works (t.stations i).phase
@@ -195,10 +171,7 @@ module _ {V C : Type 0} {w : View V C} {t : Table V} (tells : Tells w t) {next r
       (t.stations i).phase b
     where
       go : (p : Phase) → works p ≡ true → stamp_of p (t.stations i).stamp ≡ Some (t.stations i).stamp
-      go idle e = contradiction false e refl
-      go running e = refl
-      go wounded e = contradiction false e refl
-      go (waiting r m) e = refl
+      go p e = grind arith
 
   -- of two at work, the older by what is told is the older
   pub older_told : (j i : ℕ) → works (t.stations j).phase ≡ true → works (t.stations i).phase ≡ true

@@ -1,21 +1,21 @@
 -- Which attempts a call starts, ends and lets go on.
 use Rattle.std.proofs.Common.{◌≡◌, ℕ, suc, ◌<◌, Bool, true, false, cond, not, ◌&&◌, eqb, ◌⊎◌, [], length, Some, None, Option, sym, refl, ap, ◌∙◌, inl, inr, arith}
-use Rattle.std.proofs.lemmas.Bool.{eqb-true, eq-eqb, ne_eqb, cases_eq}
+use Rattle.std.proofs.lemmas.Bool.{eqb-true, eq-eqb, ne_eqb, cases_eq, true_from_ne_false}
+use Rattle.std.proofs.lemmas.Bool.Decides.{nat_tests}
 use Rattle.rules.specs.declared.Mode.{Mode}
 use Rattle.rules.specs.declared.Mode.TheVariants.{Exclusive}
-use Rattle.rules.specs.declared.Outcome.TheVariants.{Granted, Waits}
 use Rattle.rules.specs.declared.Call.{Call}
 use Rattle.rules.specs.declared.Call.TheVariants.{Begin, Take, Change, Retire, Commit, GiveUp, Again}
 use Rattle.rules.specs.declared.Answer.{Answer}
-use Rattle.rules.specs.declared.Answer.TheVariants.{Number, Taken, Committed}
+use Rattle.rules.specs.declared.Answer.TheVariants.{Number, Committed}
 use Rattle.rules.specs.Searches.{count_below}
-use Rattle.rules.specs.Tables.{Hold, Phase, idle, running, wounded, waiting, Station, Stations, Table, hold_mode, owned, is_idle, is_waiting, works, hold_on, idle_station, running_station, waiting_station, with_hand, put}
+use Rattle.rules.specs.Tables.{Hold, Phase, idle, running, wounded, waiting, Station, Stations, Table, hold_mode, owned, is_idle, works, hold_on, idle_station, running_station, waiting_station, with_hand, put}
 use Rattle.rules.specs.Operations.{seen, bonds, widen, wound, granted_station, settle, must_yield, wounded_by_take, wounded_by_give_up, adjust, retired, redrafted}
 use Rattle.rules.specs.Calls.{after, answer}
-use Rattle.rules.proofs.Searches.{contradiction, none_not_some, eqb_refl}
+use Rattle.rules.proofs.Searches.{eqb_refl}
 use Rattle.rules.proofs.Stations.{put_cases, put_same, put_other}
 use Rattle.rules.proofs.Widening.{widened_has_first}
-use Rattle.law.specs.Observer.{stamp, caller, names, Event, nothing, starts, commits, ends, waits, gets, taken_by, told, event, is_commit, is_over, is_start}
+use Rattle.law.specs.Observer.{stamp, caller, names, Event, nothing, starts, commits, ends, waits, gets, told, event, is_commit, is_over, is_start}
 use Rattle.law.proofs.Hands.{aspect_adjusted}
 use Rattle.law.proofs.Invariants.{Invariant, works_not_idle, emptied_adds_nothing, put_keeps, adjusted_adds_nothing}
 use Rattle.law.proofs.Wounding.{closed_under_younger_holders, members_at_work, at_work_spared, spared_same, wounded_rests, wounding_keeps, yielding_at_work, take_keeps}
@@ -65,8 +65,7 @@ modes_go_on {V} s s' w stamp modes = record
   where
     go : (x : Option (Hold V)) (h : Hold V) → held_mode x ≡ Some (hold_mode h)
         → (h' : Hold V) × (x ≡ Some h') × (hold_mode h' ≡ hold_mode h)
-    go None h e = contradiction true refl (cc)
-    go (Some h') h e = (h', refl, cc)
+    go x h e = grind arith
 
 -- who goes on to mid goes on through settling
 settled_goes_on : {V : Type 0} (s : Stations V) (mid : Stations V) (next records : ℕ) (show : ℕ → V) → Invariant mid next records
@@ -87,22 +86,13 @@ settled_goes_on {V} s mid next records show v on i w = go (settle show mid i) ((
         keeps q h f =
             let p = g.keeps_holds q h f in
             let apart : eqb r q ≡ false = ne_eqb r q
-            (λ rq. none_not_some (hold_on q (mid i).hand) p.0 (rw (← rq) (v.awaited_not_held i r m wait)) p.1) in
+            (λ rq. let none : hold_on q (mid i).hand ≡ None = rw (← rq) (v.awaited_not_held i r m wait) in cc (p.1)) in
             (p.0, rw apart p.1, p.2)
-
--- what is told of no station holds of none
-untold_of_none : {V C : Type 0} (test : Event V C → Bool) (c : Call C) (a : Answer V) → test nothing ≡ false
-    → test (told c a) ≡ false → (i : ℕ) → test (event c a i) ≡ false
-untold_of_none test c a none it i = go (names c i)
-  where
-    go : (b : Bool) → test (cond b (told c a) nothing) ≡ false
-    go true = it
-    go false = none
 
 -- what is not told is not so of any station
 never : {V C X : Type 0} (test : Event V C → Bool) (c : Call C) (a : Answer V) → test nothing ≡ false → test (told c a) ≡ false
     → (i : ℕ) → test (event c a i) ≡ true → X
-never test c a none it i e = contradiction (test (event c a i)) e (untold_of_none test c a none it i)
+never test c a none it i e = grind arith
 
 -- a call that ends nobody's attempt
 none_end : {V C : Type 0} (t t' : Stations V) (c : Call C) (a : Answer V)
@@ -113,10 +103,10 @@ none_end : {V C : Type 0} (t t' : Stations V) (c : Call C) (a : Answer V)
 none_end t t' c a keep no_commit over from_rest on =
     record {
       out = λ _. false;
-      closed = λ i j r h k e _ _ _ _. contradiction false e refl;
-      ended = λ i e. contradiction false e refl;
-      only = λ j w n. contradiction (works (t' j).phase) (keep j w) n;
-      younger = λ i e. contradiction false e refl;
+      closed = λ i j r h k e _ _ _ _. cc;
+      ended = λ i e. cc;
+      only = λ j w n. cc (keep j w);
+      younger = λ i e. cc;
       free = λ i e. never is_commit c a refl no_commit i e;
       over = over;
       starts_from_rest = from_rest;
@@ -137,6 +127,12 @@ put_at_work : {V : Type 0} (t : Stations V) (k : ℕ) (x : Station V) → works 
     → works (t j).phase ≡ true → works (put t k x j).phase ≡ true
 put_at_work t k x w j = put_cases (λ s. works (t j).phase ≡ true → works s.phase ≡ true) t k x j (λ _ _. w) (λ _ h. h)
 
+-- a station put idle lets everybody go on who is at work then
+idle_goes_on : {V : Type 0} (t : Stations V) (k i : ℕ) → works (put t k idle_station i).phase ≡ true
+    → GoesOn (t i) (put t k idle_station i)
+idle_goes_on t k i = put_cases (λ s. works s.phase ≡ true → GoesOn (t i) s) t k idle_station i (λ _ w. cc)
+    (λ _ w. same_goes_on (t i) (t i) refl w)
+
 module _ {V C : Type 0} (apply : V → C → V) (t : Table V) (v : Invariant t.stations t.next_stamp t.records) where
   -- what call c makes of the attempts
   abbrev pub EndsOf : Call C → Type 0
@@ -148,20 +144,19 @@ module _ {V C : Type 0} (apply : V → C → V) (t : Table V) (v : Invariant t.s
   start_ends c a k x named starts_it rest w =
       none_end t.stations (put t.stations k x) c a (put_at_work t.stations k x w) (rw starts_it)
       (λ i e. never is_over c a refl (rw starts_it) i e)
-      (λ i e. from_rest i e (cases_eq i k)) (λ i y e. on i y e (cases_eq i k))
+      from_rest (λ i y e. on i y e (cases_eq i k))
     where
       untold_of : (i : ℕ) → (i ≡ k → ⊥) → event c a i ≡ nothing
       untold_of i nk = rw named (untold k i (told c a) nk)
 
-      from_rest : (i : ℕ) → is_start (event c a i) ≡ true → (i ≡ k) ⊎ (i ≡ k → ⊥) → works (t.stations i).phase ≡ false
-      from_rest i e (inl ik) = rw ik rest
-      from_rest i e (inr nk) = contradiction (is_start (event c a i)) e (ap is_start (untold_of i nk))
+      from_rest : (i : ℕ) → is_start (event c a i) ≡ true → works (t.stations i).phase ≡ false
+      from_rest i e = grind (arith, cases_eq i k, untold_of i)
 
       on : (i : ℕ) → works (put t.stations k x i).phase ≡ true → is_start (event c a i) ≡ false → (i ≡ k) ⊎ (i ≡ k → ⊥)
           → GoesOn (t.stations i) (put t.stations k x i)
       on i y e (inl ik) =
           let ev : event c a i ≡ starts = rw (named, eq-eqb i k ik) starts_it in
-          contradiction (is_start (event c a i)) (ap is_start ev) e
+          cc (ap is_start ev)
       on i y e (inr nk) = same_goes_on (t.stations i) (put t.stations k x i) (put_other t.stations k x i nk) y
 
   -- begin starts an attempt and ends none
@@ -227,29 +222,28 @@ module _ {V C : Type 0} (apply : V → C → V) (t : Table V) (v : Invariant t.s
 
       v' : Invariant mid t.next_stamp t.records
       v' = put_keeps v k (with_hand (t.stations k) (adjust r retired (t.stations k).hand))
-          (adjusted_adds_nothing retired (λ _. refl) (t.stations k) r h at_r refl (λ x. contradiction false x refl) (rw was))
+          (adjusted_adds_nothing retired (λ _. refl) (t.stations k) r h at_r refl (λ x. cc) (rw was))
 
   -- the stations with k idle keep the invariants
   idle_keeps : (s : Stations V) → Invariant s t.next_stamp t.records → (k : ℕ)
       → Invariant (put s k idle_station) t.next_stamp t.records
   idle_keeps s w k = put_keeps w k idle_station
-      (emptied_adds_nothing (s k) idle_station refl refl (λ q. contradiction true refl q))
+      (emptied_adds_nothing (s k) idle_station refl refl (λ q. cc))
 
   -- commit ends the attempt that it commits, and no other
   pub commit_ends : (k : ℕ) → (t.stations k).phase ≡ running → bonds t.stations k ≡ 0 → EndsOf (Commit k)
   commit_ends k was unbound =
       record {
         out = λ _. false;
-        closed = λ i j r h k e _ _ _ _. contradiction false e refl;
-        ended = λ i e. contradiction false e refl;
+        closed = λ i j r h k e _ _ _ _. cc;
+        ended = λ i e. cc;
         only = λ j w n. inl
-            (commits_it j w (sym (settling_works mid t.next_stamp t.records show' v' j) ∙ n) (cases_eq j k));
-        younger = λ i e. contradiction false e refl;
-        free = λ i e. by i e (cases_eq i k);
-        over = λ i e. settling_works mid t.next_stamp t.records show' v' i ∙ over_at i e (cases_eq i k);
+            (commits_it j w (sym (settling_works mid t.next_stamp t.records show' v' j) ∙ n));
+        younger = λ i e. cc;
+        free = by;
+        over = λ i e. settling_works mid t.next_stamp t.records show' v' i ∙ over_at i e;
         starts_from_rest = λ i e. never is_start (Commit k) (Committed (suc t.commits)) refl refl i e;
-        goes_on = λ i w _. settled_goes_on t.stations mid t.next_stamp t.records show' v' (λ i w. on i w (cases_eq i k))
-            i w;
+        goes_on = λ i w _. settled_goes_on t.stations mid t.next_stamp t.records show' v' (idle_goes_on t.stations k) i w;
       }
     where
       mid : Stations V
@@ -261,25 +255,16 @@ module _ {V C : Type 0} (apply : V → C → V) (t : Table V) (v : Invariant t.s
       v' : Invariant mid t.next_stamp t.records
       v' = idle_keeps t.stations v k
 
-      commits_it : (j : ℕ) → works (t.stations j).phase ≡ true → works (mid j).phase ≡ false → (j ≡ k) ⊎ (j ≡ k → ⊥)
+      commits_it : (j : ℕ) → works (t.stations j).phase ≡ true → works (mid j).phase ≡ false
           → is_commit {V = V} {C = C} (cond (eqb j k) commits nothing) ≡ true
-      commits_it j w n (inl jk) = rw (eq-eqb j k jk)
-      commits_it j w n (inr nk) = contradiction (works (t.stations j).phase) w
-          (rw (put_other t.stations k idle_station j nk) at n)
+      commits_it j w n = grind arith
 
-      by : (i : ℕ) → is_commit {V = V} {C = C} (cond (eqb i k) commits nothing) ≡ true → (i ≡ k) ⊎ (i ≡ k → ⊥)
+      by : (i : ℕ) → is_commit {V = V} {C = C} (cond (eqb i k) commits nothing) ≡ true
           → (works (t.stations i).phase ≡ true) × (bonds t.stations i ≡ 0)
-      by i e (inl ik) = rw ik (rw was, unbound)
-      by i e (inr nk) = contradiction false (rw (ne_eqb i k nk) at e) refl
+      by i e = grind (arith, nat_tests)
 
-      over_at : (i : ℕ) → is_over {V = V} {C = C} (cond (eqb i k) commits nothing) ≡ true → (i ≡ k) ⊎ (i ≡ k → ⊥)
-          → works (mid i).phase ≡ false
-      over_at i e (inl ik) = rw (ik, put_same t.stations k idle_station)
-      over_at i e (inr nk) = contradiction false (rw (ne_eqb i k nk) at e) refl
-
-      on : (i : ℕ) → works (mid i).phase ≡ true → (i ≡ k) ⊎ (i ≡ k → ⊥) → GoesOn (t.stations i) (mid i)
-      on i w (inl ik) = contradiction false (rw (ik, put_same t.stations k idle_station) at w) refl
-      on i w (inr nk) = same_goes_on (t.stations i) (mid i) (put_other t.stations k idle_station i nk) w
+      over_at : (i : ℕ) → is_over {V = V} {C = C} (cond (eqb i k) commits nothing) ≡ true → works (mid i).phase ≡ false
+      over_at i e = grind arith
 
   -- A widened set is wounded, station k is put as x, and all is settled.
   module _ (c : Call C) (a : Answer V) (no_commit : is_commit (told c a) ≡ false) (no_start : is_start (told c a) ≡ false)
@@ -327,12 +312,8 @@ module _ {V C : Type 0} (apply : V → C → V) (t : Table V) (v : Invariant t.s
         only_members : (j : ℕ) → works (t.stations j).phase ≡ true → works (mid j).phase ≡ false → (j ≡ k) ⊎ (j ≡ k → ⊥)
             → members j ≡ true
         only_members j w n (inl jk) = rw jk (only_k (rw jk at w) (rw (jk, put_same after_wounding k x) at n))
-        only_members j w n (inr nk) = go (members j) refl
-          where
-            go : (b : Bool) → members j ≡ b → b ≡ true
-            go true e = refl
-            go false e = contradiction (works (t.stations j).phase) w
-                (rw (put_other after_wounding k x j nk, spared_same members t.stations j e) at n)
+        only_members j w n (inr nk) = true_from_ne_false (members j)
+            (λ e. cc (rw (put_other after_wounding k x j nk, spared_same members t.stations j e) at n))
 
         on : (i : ℕ) → works (mid i).phase ≡ true → (i ≡ k) ⊎ (i ≡ k → ⊥) → GoesOn (t.stations i) (mid i)
         on i w (inl ik) = rw (ik, put_same after_wounding k x) (on_k (rw (ik, put_same after_wounding k x) at w))
@@ -348,8 +329,8 @@ module _ {V C : Type 0} (apply : V → C → V) (t : Table V) (v : Invariant t.s
   take_ends k r m was inside lacks free =
       wounding_ends (Take k r m) (answer apply (Take k r m) t) (tells_none is_commit refl refl) (tells_none is_start refl refl)
       first (yielding_at_work v k r m) k new (take_keeps v k r m was inside lacks free)
-      (λ i ik e. contradiction (widen t.stations first k) (rw ik at e) (taker_spared t.stations k r m))
-      (λ _ n. contradiction true refl n)
+      (λ i ik e. cc (rw ik at e, taker_spared t.stations k r m))
+      (λ _ n. cc)
       (λ i e. inr (k, rw was, taker_older t.stations k r m i e))
       (λ _. rw taker_same (modes_go_on (t.stations k) (waiting_station (t.stations k) r m) (rw was) refl (λ _. refl)))
       (λ i e. never is_over (Take k r m) (answer apply (Take k r m) t) refl (tells_none is_over refl refl) i e)
@@ -365,12 +346,7 @@ module _ {V C : Type 0} (apply : V → C → V) (t : Table V) (v : Invariant t.s
 
       tells_none : (test : Event V C → Bool) → test (gets r m) ≡ false → test (waits r m) ≡ false
           → test (told (Take k r m) (answer apply (Take k r m) t)) ≡ false
-      tells_none test g w = by (is_waiting ((after apply (Take k r m) t).stations k).phase)
-        where
-          by : (b : Bool)
-              → test (taken_by r m (Taken (cond b Waits Granted) (count_below 16 (wounded_by_take t.stations k r m)))) ≡ false
-          by true = w
-          by false = g
+      tells_none test g w = grind arith
 
   -- a station at work that gives up ends its attempt and those of its followers
   give_up_at_work_ends : (k : ℕ) → works (t.stations k).phase ≡ true → (n : ℕ)
@@ -380,51 +356,41 @@ module _ {V C : Type 0} (apply : V → C → V) (t : Table V) (v : Invariant t.s
       (idle_keeps (wound (widen t.stations (λ j. eqb j k)) t.stations)
       (wounding_keeps v (widen t.stations (λ j. eqb j k)) (members_at_work v (λ j. eqb j k) base)) k)
       (λ _ _ _. refl) (λ _ _. widened_has_first t.stations (λ j. eqb j k) k (eqb_refl k)) (λ i e. young i e (cases_eq i k))
-      (λ e. contradiction false e refl) (λ i e. (caller_over i e (cases_eq i k), refl))
+      (λ e. cc) (λ i e. (caller_over i e, refl))
     where
       base : (i : ℕ) → eqb i k ≡ true → works (t.stations i).phase ≡ true
       base i q = rw (eqb-true i k q) was
 
-      caller_over : (i : ℕ) → is_over {V = V} {C = C} (cond (eqb i k) ends nothing) ≡ true → (i ≡ k) ⊎ (i ≡ k → ⊥) → i ≡ k
-      caller_over i e (inl ik) = ik
-      caller_over i e (inr nk) = contradiction false (rw (ne_eqb i k nk) at e) refl
+      caller_over : (i : ℕ) → is_over {V = V} {C = C} (cond (eqb i k) ends nothing) ≡ true → i ≡ k
+      caller_over i e = grind (arith, nat_tests)
 
       young : (i : ℕ) → widen t.stations (λ j. eqb j k) i ≡ true → (i ≡ k) ⊎ (i ≡ k → ⊥)
           → (eqb i k ≡ true) ⊎ ((j : ℕ) × (works (t.stations j).phase ≡ true) × ((t.stations j).stamp < (t.stations i).stamp))
       young i e (inl ik) = inl (eq-eqb i k ik)
-      young i e (inr nk) = inr (k, was, by (cases_eq (t.stations i).stamp (t.stations k).stamp))
+      young i e (inr nk) = inr (k, was, by)
         where
-          by : ((t.stations i).stamp ≡ (t.stations k).stamp) ⊎ ((t.stations i).stamp ≡ (t.stations k).stamp → ⊥)
-              → (t.stations k).stamp < (t.stations i).stamp
-          by (inl q) = absurd (nk (v.apart i k
-              (works_not_idle (t.stations i).phase (members_at_work v (λ j. eqb j k) base i e))
-              (works_not_idle (t.stations k).phase was) q))
-          by (inr q) = omega
-              (arith, members_no_older t.stations (λ j. eqb j k) (t.stations k).stamp (λ j x. rw (eqb-true j k x) (omega arith)) i e)
+          by : (t.stations k).stamp < (t.stations i).stamp
+          by = grind (
+            arith,
+            cases_eq (t.stations i).stamp (t.stations k).stamp,
+            v.apart i k (works_not_idle (t.stations i).phase (members_at_work v (λ j. eqb j k) base i e))
+                (works_not_idle (t.stations k).phase was),
+            members_no_older t.stations (λ j. eqb j k) (t.stations k).stamp (λ j x. rw (eqb-true j k x) (omega arith)) i e,
+          )
 
   -- a wounded station that gives up ends nobody's attempt: its own has ended
   give_up_wounded_ends : (k : ℕ) → (t.stations k).phase ≡ wounded → (n : ℕ)
       → Ends {C = C} t.stations (put t.stations k idle_station) (GiveUp k) (Number n)
   give_up_wounded_ends k was n =
-      none_end t.stations (put t.stations k idle_station) (GiveUp k) (Number n) (λ j w. still j w (cases_eq j k)) refl
-      (λ i e. over_at i e (cases_eq i k))
-      (λ i e. never is_start (GiveUp k) (Number n) refl refl i e) (λ i w _. on i w (cases_eq i k))
+      none_end t.stations (put t.stations k idle_station) (GiveUp k) (Number n) still refl over_at
+      (λ i e. never is_start (GiveUp k) (Number n) refl refl i e) (λ i w _. idle_goes_on t.stations k i w)
     where
-      over_at : (i : ℕ) → is_over {V = V} {C = C} (cond (eqb i k) ends nothing) ≡ true → (i ≡ k) ⊎ (i ≡ k → ⊥)
+      over_at : (i : ℕ) → is_over {V = V} {C = C} (cond (eqb i k) ends nothing) ≡ true
           → works (put t.stations k idle_station i).phase ≡ false
-      over_at i e (inl ik) = rw (ik, put_same t.stations k idle_station)
-      over_at i e (inr nk) = contradiction false (rw (ne_eqb i k nk) at e) refl
+      over_at i e = grind arith
 
-      still : (j : ℕ) → works (t.stations j).phase ≡ true → (j ≡ k) ⊎ (j ≡ k → ⊥)
-          → works (put t.stations k idle_station j).phase ≡ true
-      still j w (inl jk) = contradiction false (rw (jk, was) at w) refl
-      still j w (inr nk) = rw (put_other t.stations k idle_station j nk) w
-
-      on : (i : ℕ) → works (put t.stations k idle_station i).phase ≡ true → (i ≡ k) ⊎ (i ≡ k → ⊥)
-          → GoesOn (t.stations i) (put t.stations k idle_station i)
-      on i w (inl ik) = contradiction false (rw (ik, put_same t.stations k idle_station) at w) refl
-      on i w (inr nk) = same_goes_on (t.stations i) (put t.stations k idle_station i)
-          (put_other t.stations k idle_station i nk) w
+      still : (j : ℕ) → works (t.stations j).phase ≡ true → works (put t.stations k idle_station j).phase ≡ true
+      still j w = grind (arith, nat_tests)
 
   -- give up ends its own attempt and those of the followers
   pub give_up_ends : (k : ℕ) → is_idle (t.stations k).phase ≡ false → EndsOf (GiveUp k)
@@ -432,7 +398,7 @@ module _ {V C : Type 0} (apply : V → C → V) (t : Table V) (v : Invariant t.s
   give_up_ends k busy = go (t.stations k).phase refl
     where
       go : (p : Phase) → (t.stations k).phase ≡ p → EndsOf (GiveUp k)
-      go idle q = contradiction true refl (rw q at busy)
+      go idle q = cc (rw q at busy)
       go running q = rw q
           (give_up_at_work_ends k (rw q) (count_below 16 (λ j. not (eqb j k) && widen t.stations (λ i. eqb i k) j)))
       go wounded q = rw q (give_up_wounded_ends k q 0)

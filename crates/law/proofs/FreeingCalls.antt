@@ -1,5 +1,5 @@
 -- The calls that free something, and so settle, keep table and observation together: take, retire, commit and give up.
-use Rattle.std.proofs.Common.{◌≡◌, ℕ, suc, ◌<◌, Bool, true, false, cond, not, ◌&&◌, eqb, ◌⊎◌, [], length, is_some, Some, None, Option, sym, refl, ap, ◌∙◌, subst, inl, inr}
+use Rattle.std.proofs.Common.{◌≡◌, ℕ, suc, ◌<◌, Bool, true, false, cond, not, ◌&&◌, eqb, ◌⊎◌, [], length, is_some, Some, None, Option, sym, refl, ap, ◌∙◌, subst, inl, inr, arith}
 use Rattle.std.proofs.lemmas.Bool.{eqb-true, ne_eqb, cases_eq}
 use Rattle.rules.specs.declared.Mode.{Mode}
 use Rattle.rules.specs.declared.State.TheVariants.{Running, Waiting}
@@ -12,7 +12,7 @@ use Rattle.rules.specs.Searches.{count_below}
 use Rattle.rules.specs.Tables.{Hold, Phase, idle, running, wounded, waiting, Station, Stations, Table, owned, is_idle, is_waiting, works, hold_on, draft_in, idle_station, waiting_station, with_hand, put, with_stations}
 use Rattle.rules.specs.Operations.{or_else, seen, bonds, widen, wound, settle, must_yield, wounded_by_take, wounded_by_give_up, adjust, retired}
 use Rattle.rules.specs.Calls.{state_of, after, answer}
-use Rattle.rules.proofs.Searches.{contradiction, none_not_some, eqb_refl}
+use Rattle.rules.proofs.Searches.{eqb_refl}
 use Rattle.rules.proofs.Stations.{put_cases, put_same, put_other}
 use Rattle.rules.proofs.Widening.{widened_has_first}
 use Rattle.law.specs.Observer.{View, turned, Event, nothing, commits, ends, waits, taken_by, told, event, is_commit, Attempt, after_event, with_grant, continued, Observation, observe}
@@ -52,7 +52,7 @@ module _ {V C : Type 0} (apply : V → C → V) (opening : ℕ → V) (t : Table
   retire_consistent k r was (h, at_r, own) w' tells' e =
       settling_consistent (Retire k r) (answer apply (Retire k r) t) mid w' tells' e refl
       (put_keeps g.invariant k new
-      (adjusted_adds_nothing retired (λ _. refl) (t.stations k) r h at_r refl (λ x. contradiction false x refl) (rw was)))
+      (adjusted_adds_nothing retired (λ _. refl) (t.stations k) r h at_r refl (λ x. cc) (rw was)))
       (λ i _. (phase i, silent (Retire k r) (answer apply (Retire k r) t) i refl, matches i))
     where
       new : Station V
@@ -75,8 +75,7 @@ module _ {V C : Type 0} (apply : V → C → V) (opening : ℕ → V) (t : Table
           (λ jk. rw jk (aspect_adjusted retired (λ _. refl) r aspect (t.stations k).hand h at_r same q)) (λ _. refl)
 
       still_held : (x y : Option (Hold V)) (h : Hold V) → is_some y ≡ is_some x → x ≡ Some h → (h' : Hold V) × (y ≡ Some h')
-      still_held x None h a b = contradiction false (a ∙ ap is_some b) refl
-      still_held x (Some h') h a b = (h', refl)
+      still_held x y h a b = grind arith
 
       matches : (i : ℕ) → Matches apply mid t.show i (o.attempts i)
       matches i =
@@ -105,13 +104,13 @@ module _ {V C : Type 0} (apply : V → C → V) (opening : ℕ → V) (t : Table
 
       v : Invariant mid t.next_stamp t.records
       v = put_keeps g.invariant k idle_station
-          (emptied_adds_nothing (t.stations k) idle_station refl refl (λ q. contradiction true refl q))
+          (emptied_adds_nothing (t.stations k) idle_station refl refl (λ q. cc))
 
       rests : (i : ℕ) → i ≡ k → works (mid i).phase ≡ false
       rests i ik = rw (ik, put_same t.stations k idle_station)
 
       matches : (i : ℕ) → works (mid i).phase ≡ true → (i ≡ k) ⊎ (i ≡ k → ⊥) → Matches apply mid show' i (o.attempts i)
-      matches i x (inl ik) = contradiction (works (mid i).phase) x (rests i ik)
+      matches i x (inl ik) = cc (rests i ik)
       matches i x (inr nk) =
           carried_on apply t.stations mid t.show show' i (o.attempts i) (put_other t.stations k idle_station i nk)
           (replays_if_other_commits apply t.stations t.next_stamp t.records g.invariant t.show k free i
@@ -122,7 +121,7 @@ module _ {V C : Type 0} (apply : V → C → V) (opening : ℕ → V) (t : Table
 
       matches_after : (i : ℕ) → works (settle show' mid i).phase ≡ true → (i ≡ k) ⊎ (i ≡ k → ⊥)
           → Matches apply (settle show' mid) show' i (continued (suc o.started) (state_of (t.stations i).phase) (state_of (settle show' mid i).phase) (event (Commit k) (Committed (suc t.commits)) i) (o.attempts i))
-      matches_after i x (inl ik) = contradiction (works (mid i).phase) (sym (s.same_work i) ∙ x) (rests i ik)
+      matches_after i x (inl ik) = cc (sym (s.same_work i) ∙ x, rests i ik)
       matches_after i x (inr nk) =
           settled_untold apply (settle show' mid) show' i (suc o.started) (event (Commit k) (Committed (suc t.commits)) i)
           (o.attempts i) (mid i).phase (t.stations i).phase (state_of (settle show' mid i).phase)
@@ -157,8 +156,7 @@ module _ {V C : Type 0} (apply : V → C → V) (opening : ℕ → V) (t : Table
         → Replays apply wounded_stations t.show i (o.attempts i).entries
     spared_replays i e =
         replays_if_closed_set_wounded apply t.stations t.show (widen t.stations first) i (o.attempts i).entries e
-        (λ j r h k mj fj x fi l. contradiction (widen t.stations first i)
-        (closed_under_younger_holders g.invariant first i j r h k mj fj x fi l) e) (g.matches i).replays
+        (λ j r h k mj fj x fi l. cc (closed_under_younger_holders g.invariant first i j r h k mj fj x fi l)) (g.matches i).replays
 
     -- whoever is spared matches as before
     spared_matches : (i : ℕ) → widen t.stations first i ≡ false → Matches apply wounded_stations t.show i (o.attempts i)
@@ -173,9 +171,9 @@ module _ {V C : Type 0} (apply : V → C → V) (opening : ℕ → V) (t : Table
       consistent_step apply opening t (with_stations t (put t.stations k idle_station)) o (GiveUp k) (Number n) w w' tells
       tells' e g.invariant
       (put_keeps g.invariant k idle_station
-      (emptied_adds_nothing (t.stations k) idle_station refl refl (λ q. contradiction true refl q))) g.next_positive
+      (emptied_adds_nothing (t.stations k) idle_station refl refl (λ q. cc))) g.next_positive
       (put_leaves_blocked t.stations k idle_station (rw was) refl
-      (λ r h f _. none_not_some (hold_on r (t.stations k).hand) h (ap (hold_on r) none) f) g.blocked)
+      (λ r h f _. cc (ap (hold_on r) none)) g.blocked)
       (λ i x. matches i x (cases_eq i k)) g.answers_agree g.values_left g.commits_counted
     where
       none : (t.stations k).hand ≡ []
@@ -183,7 +181,7 @@ module _ {V C : Type 0} (apply : V → C → V) (opening : ℕ → V) (t : Table
 
       matches : (i : ℕ) → works (put t.stations k idle_station i).phase ≡ true → (i ≡ k) ⊎ (i ≡ k → ⊥)
           → Matches apply (put t.stations k idle_station) t.show i (continued (suc o.started) (state_of (t.stations i).phase) (state_of (put t.stations k idle_station i).phase) (event (GiveUp k) (Number n) i) (o.attempts i))
-      matches i x (inl ik) = contradiction false (rw (ik, put_same t.stations k idle_station) at x) refl
+      matches i x (inl ik) = cc (rw (ik, put_same t.stations k idle_station) at x)
       matches i x (inr nk) = others_match apply opening t o g w tells (GiveUp k) (Number n) k idle_station none refl i nk
           (untold k i ends nk)
 
@@ -195,7 +193,7 @@ module _ {V C : Type 0} (apply : V → C → V) (opening : ℕ → V) (t : Table
   give_up_at_work k was n w' tells' e =
       settling_consistent (GiveUp k) (Number n) mid w' tells' e refl
       (put_keeps (wounded_invariant (λ j. eqb j k) base) k idle_station
-      (emptied_adds_nothing (after_wounding k) idle_station refl refl (λ q. contradiction true refl q)))
+      (emptied_adds_nothing (after_wounding k) idle_station refl refl (λ q. cc)))
       (λ i x. let q = spared i x (cases_eq i k) in (
         rw
             (same i q.0, spared_same (widen t.stations (λ j. eqb j k)) t.stations i q.1),
@@ -217,7 +215,7 @@ module _ {V C : Type 0} (apply : V → C → V) (opening : ℕ → V) (t : Table
 
       spared : (i : ℕ) → works (mid i).phase ≡ true → (i ≡ k) ⊎ (i ≡ k → ⊥)
           → (i ≡ k → ⊥) × (widen t.stations (λ j. eqb j k) i ≡ false)
-      spared i x (inl ik) = contradiction false (rw (ik, put_same after_wounding k idle_station) at x) refl
+      spared i x (inl ik) = cc (rw (ik, put_same after_wounding k idle_station) at x)
       spared i x (inr nk) = (nk, at_work_spared (widen t.stations (λ j. eqb j k)) t.stations i (rw (same i nk) at x))
 
       matches : (i : ℕ) → (i ≡ k → ⊥) → widen t.stations (λ j. eqb j k) i ≡ false
@@ -239,7 +237,7 @@ module _ {V C : Type 0} (apply : V → C → V) (opening : ℕ → V) (t : Table
 
       go : (p : Phase) → (t.stations k).phase ≡ p → Tells w' (after apply (GiveUp k) t) → w (GiveUp k) ≡ answer apply (GiveUp k) t
           → Consistent apply opening (after apply (GiveUp k) t) (observe w (GiveUp k) w' o)
-      go idle q x y = contradiction true refl (rw q at busy)
+      go idle q x y = cc (rw q at busy)
       go running q x y = rw q (give_up_at_work k (rw q) count w' (rw q at x) (rw q at y))
       go wounded q x y = rw q (give_up_wounded k q 0 w' (rw q at x) (rw q at y))
       go (waiting r m) q x y = rw q (give_up_at_work k (rw q) count w' (rw q at x) (rw q at y))
@@ -249,10 +247,10 @@ module _ {V C : Type 0} (apply : V → C → V) (opening : ℕ → V) (t : Table
       → (u k).phase ≡ p → works p ≡ true
       → Matches apply u show k (with_grant (cond (turned Waiting (state_of p)) (Some (r, m)) None) (after_event n (waits r m) a))
       → Matches apply u show k (continued n Running (state_of p) (taken_by r m (Taken (cond (is_waiting p) Waits Granted) count)) a)
-  taker_matches u show k n a r m count idle e x y = contradiction false x refl
+  taker_matches u show k n a r m count idle e x y = cc
   taker_matches u show k n a r m count running e x y =
-      record { replays = y.replays; holds_observed = y.holds_observed; wait_observed = λ q mq z. contradiction true refl (cc) }
-  taker_matches u show k n a r m count wounded e x y = contradiction false x refl
+      record { replays = y.replays; holds_observed = y.holds_observed; wait_observed = λ q mq z. cc }
+  taker_matches u show k n a r m count wounded e x y = cc
   taker_matches u show k n a r m count (waiting q mq) e x y = y
 
   -- take keeps table and observation together
@@ -292,12 +290,7 @@ module _ {V C : Type 0} (apply : V → C → V) (opening : ℕ → V) (t : Table
 
       -- a take commits nothing
       silent_commit : is_commit {V = V} {C = C} (taken_by r m (answer apply (Take k r m) t)) ≡ false
-      silent_commit = by (is_waiting (settle t.show mid k).phase)
-        where
-          by : (b : Bool)
-              → is_commit {V = V} {C = C} (taken_by r m (Taken (cond b Waits Granted) (count_below 16 members))) ≡ false
-          by true = refl
-          by false = refl
+      silent_commit = grind arith
 
       v : Invariant mid t.next_stamp t.records
       v = take_keeps g.invariant k r m was inside lacks free

@@ -1,14 +1,13 @@
 -- The invariants of the lock table, and the changes that keep them. They hold at the start and after every step inside a call.
-use Rattle.std.proofs.Common.{◌≡◌, ℕ, suc, ◌+◌, ◌<◌, ◌≤◌, Bool, true, false, cond, eqb, ◌⊎◌, List, [], ◌∷◌, length, Some, None, sym, refl, ap, ◌∙◌, inl, inr, le_trans, arith}
-use Rattle.std.proofs.lemmas.Bool.{eqb-true, cases_eq}
+use Rattle.std.proofs.Common.{◌≡◌, ℕ, suc, ◌+◌, ◌<◌, ◌≤◌, true, false, cond, eqb, ◌⊎◌, List, [], ◌∷◌, length, Some, None, sym, refl, ap, ◌∙◌, inl, inr, le_trans, arith}
+use Rattle.std.proofs.lemmas.Bool.{eqb-true, cases_eq, cases_Bool, cond_both}
 use Rattle.rules.specs.declared.Mode.{Mode}
 use Rattle.rules.specs.declared.Mode.TheVariants.{Shared, Exclusive}
 use Rattle.rules.specs.declared.Stage.TheVariants.{Owned}
-use Rattle.rules.specs.Tables.{Hold, Phase, idle, running, wounded, waiting, Station, Stations, conflict, mode_with, hold_mode, owned, is_idle, is_waiting, works, hold_on, running_station, waiting_station, with_hand, put}
+use Rattle.rules.specs.Tables.{Hold, Phase, running, waiting, Station, Stations, conflict, mode_with, hold_mode, owned, is_idle, is_waiting, works, hold_on, running_station, waiting_station, with_hand, put}
 use Rattle.rules.specs.Operations.{draft_for, granted_station, adjust}
 use Rattle.rules.specs.Calls.{awaited}
 use Rattle.rules.specs.Orderly.{Distinct}
-use Rattle.rules.proofs.Searches.{contradiction}
 use Rattle.rules.proofs.Stations.{put_cases, put_same, put_other}
 use Rattle.law.specs.Observer.{stamp, oldest}
 use Rattle.law.proofs.Hands.{hold_on_adjusted, hold_on_others, none_adjusted, length_adjusted}
@@ -48,40 +47,28 @@ pub record Invariant {V : Type 0} (t : Stations V) (next records : ℕ) : Type 0
 
 -- who is at work is not idle
 pub works_not_idle : (p : Phase) → works p ≡ true → is_idle p ≡ false
-works_not_idle idle e = contradiction false e refl
-works_not_idle running e = refl
-works_not_idle wounded e = refl
-works_not_idle (waiting r m) e = refl
+works_not_idle p e = grind arith
 
 -- who waits is at work
 pub waiting_works : (p : Phase) (r : ℕ) (m : Mode) → p ≡ waiting r m → works p ≡ true
-waiting_works p r m e = ap works e
+waiting_works p r m e = cc
 
 -- who is not at work does not wait
 pub resting_waits_not : (p : Phase) → works p ≡ false → is_waiting p ≡ false
-resting_waits_not idle e = refl
-resting_waits_not running e = refl
-resting_waits_not wounded e = refl
-resting_waits_not (waiting r m) e = contradiction true refl e
+resting_waits_not p e = grind arith
 
 -- every mode conflicts with the exclusive one
 pub conflict_exclusive : (m : Mode) → conflict m Exclusive ≡ true
-conflict_exclusive Shared = refl
-conflict_exclusive Exclusive = refl
+conflict_exclusive m = grind arith
 
 -- a hold starts in the mode taken
 pub mode_granted : {V : Type 0} (m : Mode) (v : V) → mode_with (draft_for m v) ≡ m
-mode_granted Shared v = refl
-mode_granted Exclusive v = refl
+mode_granted m v = grind arith
 
 -- a station whose hand is empty unless it is at work, and which holds something, is at work
 holder_at_work : {V : Type 0} (s : Station V) (r : ℕ) (h : Hold V) → (works s.phase ≡ false → s.hand ≡ [])
     → hold_on r s.hand ≡ Some h → works s.phase ≡ true
-holder_at_work s r h empty e = go (works s.phase) refl
-  where
-    go : (b : Bool) → works s.phase ≡ b → b ≡ true
-    go true q = refl
-    go false q = let z : hold_on r s.hand ≡ None = ap (hold_on r) (empty q) in cc
+holder_at_work s r h empty e = grind arith
 
 module _ {V : Type 0} {t : Stations V} {next records : ℕ} (v : Invariant t next records) where
   -- who holds is at work
@@ -103,12 +90,7 @@ module _ {V : Type 0} {t : Stations V} {next records : ℕ} (v : Invariant t nex
   -- whoever holds what another waits for, in a conflicting mode, is the older
   pub conflicting_holder_older : (i j r : ℕ) (m : Mode) (k : Hold V) → (t i).phase ≡ waiting r m → hold_on r (t j).hand ≡ Some k
       → conflict m (hold_mode k) ≡ true → (t j).stamp < (t i).stamp
-  conflicting_holder_older i j r Exclusive k e f c = v.exclusive_wait i j r k e f
-  conflicting_holder_older i j r Shared k e f c = v.shared_wait i j r k e f (exclusive (hold_mode k) c)
-    where
-      exclusive : (m : Mode) → conflict Shared m ≡ true → m ≡ Exclusive
-      exclusive Shared q = contradiction false q refl
-      exclusive Exclusive q = refl
+  conflicting_holder_older i j r m k e f c = grind (arith, v.exclusive_wait i j r k, v.shared_wait i j r k)
 
 -- A change that adds nothing.
 
@@ -142,8 +124,8 @@ pub emptied_adds_nothing : {V : Type 0} (s s' : Station V) → s'.hand ≡ [] �
 emptied_adds_nothing {V} s s' none rests stamp =
     record {
       same_stamp = stamp;
-      same_wait = λ r m q. contradiction true refl (rw q at rests);
-      same_hold = λ r h q. contradiction true refl (let z : hold_on r s'.hand ≡ None = ap (hold_on r) none in cc);
+      same_wait = λ r m q. cc (rw q at rests);
+      same_hold = λ r h q. let z : hold_on r s'.hand ≡ None = ap (hold_on r) none in cc;
       none_held = λ r q. ap (hold_on r) none;
       empties = λ q. none;
       stays_distinct = λ q. rw none tt;
@@ -199,11 +181,8 @@ module _ {V : Type 0} (f : Hold V → Hold V) (keeps : (h : Hold V) → (f h).re
   -- the records stay distinct
   distinct_adjusted : (q : ℕ) (hs : List (Hold V)) → Distinct hs → Distinct (adjust q f hs)
   distinct_adjusted q [] d = tt
-  distinct_adjusted q (g ∷ hs) d = go (eqb g.record_number q) (distinct_adjusted q hs d.1)
-    where
-      go : (b : Bool) → Distinct (adjust q f hs) → Distinct (cond b (f g ∷ hs) (g ∷ adjust q f hs))
-      go true ih = (rw (keeps g) d.0, d.1)
-      go false ih = (none_adjusted f keeps q g.record_number hs d.0, ih)
+  distinct_adjusted q (g ∷ hs) d = cond_both (eqb g.record_number q) (f g ∷ hs) (g ∷ adjust q f hs) Distinct
+      (λ _. (rw (keeps g) d.0, d.1)) (λ _. (none_adjusted f keeps q g.record_number hs d.0, distinct_adjusted q hs d.1))
 
   -- nothing is added
   pub adjusted_adds_nothing : (s : Station V) (q : ℕ) (h : Hold V) → hold_on q s.hand ≡ Some h → hold_mode (f h) ≡ hold_mode h
@@ -214,7 +193,7 @@ module _ {V : Type 0} (f : Hold V → Hold V) (keeps : (h : Hold V) → (f h).re
         same_wait = λ r m p. p;
         same_hold = λ r g p. go r g p (cases_eq r q);
         none_held = λ r p. none_adjusted f keeps q r s.hand p;
-        empties = λ n. contradiction (works s.phase) w n;
+        empties = λ n. cc;
         stays_distinct = distinct_adjusted q s.hand;
         no_more_places = rw (length_adjusted f keeps q s.hand) (omega arith);
       }
@@ -262,12 +241,12 @@ begin_keeps {V} {t} {next} {records} v i l pos =
         → ((j ≡ i → ⊥) → hold_on r (t j).hand ≡ Some h → X) → X
     old_holder {X} j r h = put_cases (λ s. hold_on r s.hand ≡ Some h → ((j ≡ i → ⊥) → hold_on r (t j).hand ≡ Some h → X) → X)
         t i new j
-        (λ _ e _. contradiction true refl (cc)) (λ ne e f. f ne e)
+        (λ _ e _. cc) (λ ne e f. f ne e)
 
     old_waiter : {X : Type 0} (j r : ℕ) (m : Mode) → (put t i new j).phase ≡ waiting r m
         → ((j ≡ i → ⊥) → (t j).phase ≡ waiting r m → X) → X
     old_waiter {X} j r m = put_cases (λ s. s.phase ≡ waiting r m → ((j ≡ i → ⊥) → (t j).phase ≡ waiting r m → X) → X) t i new j
-        (λ _ e _. contradiction true refl (cc)) (λ ne e f. f ne e)
+        (λ _ e _. cc) (λ ne e f. f ne e)
 
     apart : (j k : ℕ) → is_idle (put t i new j).phase ≡ false → is_idle (put t i new k).phase ≡ false
         → (put t i new j).stamp ≡ (put t i new k).stamp → j ≡ k
@@ -312,7 +291,7 @@ module _ {V : Type 0} {t : Stations V} {next records : ℕ} (v : Invariant t nex
         stamped = λ a e. rw (stamp_kept a) (v.stamped a (sym (idle_kept a) ∙ e));
         apart = λ a b e f q. v.apart a b (sym (idle_kept a) ∙ e) (sym (idle_kept b) ∙ f) (sym (stamp_kept a) ∙ q ∙ stamp_kept b);
         empty_handed = λ a. put_cases (λ s. works s.phase ≡ false → s.hand ≡ []) t i x a
-            (λ _ e. contradiction (works x.phase) is e) (λ _. v.empty_handed a);
+            (λ _ e. cc) (λ _. v.empty_handed a);
         held_inside = λ a r h. put_cases (λ s. hold_on r s.hand ≡ Some h → r < records) t i x a (λ _. inside r h)
             (λ _. v.held_inside a r h);
         awaited_inside = λ a r m. put_cases (λ s. s.phase ≡ waiting r m → r < records) t i x a (λ _ e. (awaited r m e).0)
@@ -366,7 +345,7 @@ grant_keeps {V} {t} {next} {records} v i r m d wait free oldest =
     (λ a b q md k e f x. waits a q md e (λ na w. holds b q k f (λ f. conflicting_holder_older v a b q md k w f x)
     (λ eb eq ek. rw eb (younger a md (rw eq at w) na))))
     (λ q h e. in_hand q h e (v.held_inside i q h) (λ eq _. rw eq (v.awaited_inside i r m wait)))
-    (λ q md e. contradiction true refl (cc))
+    (λ q md e. cc)
     (v.awaited_not_held i r m wait, v.distinct i)
     (let z : places (t i) ≤ 16 = v.room i in let z' : length (t i).hand + 1 ≤ 16 = rw wait at z in omega arith)
   where
@@ -379,11 +358,10 @@ grant_keeps {V} {t} {next} {records} v i r m d wait free oldest =
     -- the new hold, or one that was there
     in_hand : {X : Type 0} (q : ℕ) (h : Hold V) → hold_on q (new_hold ∷ (t i).hand) ≡ Some h → (hold_on q (t i).hand ≡ Some h → X)
         → (q ≡ r → h ≡ new_hold → X) → X
-    in_hand {X} q h e f g = go (eqb r q) refl e
-      where
-        go : (b : Bool) → eqb r q ≡ b → cond b (Some new_hold) (hold_on q (t i).hand) ≡ Some h → X
-        go true u w = g (sym (eqb-true r q u)) (cc)
-        go false u w = f w
+    in_hand {X} q h e f g = elim (cases_Bool (eqb r q)) [
+      | inl u ↦ g (sym (eqb-true r q u)) (cc)
+      | inr u ↦ f (rw u at e)
+    ]
 
     holds : {X : Type 0} (j q : ℕ) (h : Hold V) → hold_on q (put t i new j).hand ≡ Some h → (hold_on q (t j).hand ≡ Some h → X)
         → (j ≡ i → q ≡ r → h ≡ new_hold → X) → X
@@ -395,17 +373,13 @@ grant_keeps {V} {t} {next} {records} v i r m d wait free oldest =
     waits : {X : Type 0} (j q : ℕ) (md : Mode) → (put t i new j).phase ≡ waiting q md
         → ((j ≡ i → ⊥) → (t j).phase ≡ waiting q md → X) → X
     waits {X} j q md = put_cases (λ s. s.phase ≡ waiting q md → ((j ≡ i → ⊥) → (t j).phase ≡ waiting q md → X) → X) t i new j
-        (λ e f _. contradiction true refl (cc)) (λ ne f g. g ne f)
+        (λ e f _. cc) (λ ne f g. g ne f)
 
     excl : (h : Hold V) → h ≡ new_hold → hold_mode h ≡ Exclusive → m ≡ Exclusive
     excl h e x = sym (mode_granted m d) ∙ (ap (λ (u : Hold V). hold_mode u) (sym e) ∙ x)
 
     younger : (a : ℕ) (md : Mode) → (t a).phase ≡ waiting r md → (a ≡ i → ⊥) → (t i).stamp < (t a).stamp
-    younger a md w na = go (cases_eq (t a).stamp (t i).stamp)
-      where
-        go : ((t a).stamp ≡ (t i).stamp) ⊎ ((t a).stamp ≡ (t i).stamp → ⊥) → (t i).stamp < (t a).stamp
-        go (inl e) = absurd (na (v.apart a i (waiter_not_idle v a r md w) (waiter_not_idle v i r m wait) e))
-        go (inr e) = omega (arith, oldest a md w)
+    younger a md w na = grind (arith, oldest a md w, v.apart a i (waiter_not_idle v a r md w) (waiter_not_idle v i r m wait))
 
 -- Blocked.
 
@@ -430,7 +404,7 @@ put_leaves_blocked {V} t k x was is kept blocked i r m = go (cases_eq i k)
     t' = put t k x
 
     go : (i ≡ k) ⊎ (i ≡ k → ⊥) → (t' i).phase ≡ waiting r m → (j : ℕ) × BlockedBy t' i r m j
-    go (inl ik) wait = contradiction true refl (let z : x.phase ≡ waiting r m = rw (ik, put_same t k x) at wait in rw z at is)
+    go (inl ik) wait = cc (let z : x.phase ≡ waiting r m = rw (ik, put_same t k x) at wait in rw z at is)
     go (inr nk) wait = (b.0, by (cases_eq b.0 k) b.1)
       where
         here : t' i ≡ t i
@@ -444,4 +418,4 @@ put_leaves_blocked {V} t k x was is kept blocked i r m = go (cases_eq i k)
         by (inl e) (l, inl (h, f, o, c)) =
             let q = kept r h (rw e at f) o in
             rw (here, e, put_same t k x) (rw q.0 (rw e at l), inl (q.1.0, q.1.1, q.1.2, rw q.1.3 c))
-        by (inl e) (l, inr (md, w)) = contradiction true refl (let z : (t k).phase ≡ waiting r md = rw e at w in rw z at was)
+        by (inl e) (l, inr (md, w)) = cc (let z : (t k).phase ≡ waiting r md = rw e at w in rw z at was)

@@ -1,18 +1,18 @@
 -- The calls that free nothing keep table and observation together: refused calls, questions, begin, again, look and change.
-use Rattle.std.proofs.Common.{◌≡◌, ℕ, suc, ◌<◌, Bool, true, false, cond, eqb, ◌⊎◌, [], Some, sym, refl, ap, ◌∙◌, inl, inr, arith}
+use Rattle.std.proofs.Common.{◌≡◌, ℕ, suc, ◌<◌, true, false, cond, eqb, ◌⊎◌, [], Some, sym, refl, ap, ◌∙◌, inl, inr, arith}
 use Rattle.std.proofs.lemmas.Bool.{ne_eqb, cases_eq}
 use Rattle.rules.specs.declared.State.TheVariants.{Running}
 use Rattle.rules.specs.declared.Refusal.{Refusal}
 use Rattle.rules.specs.declared.Call.{Call}
-use Rattle.rules.specs.declared.Call.TheVariants.{Begin, Take, Look, Change, Retire, Commit, GiveUp, Again, Standing, Plotted, Count}
+use Rattle.rules.specs.declared.Call.TheVariants.{Begin, Look, Change, Again}
 use Rattle.rules.specs.declared.Answer.{Answer}
 use Rattle.rules.specs.declared.Answer.TheVariants.{Refused, Number, Value}
-use Rattle.rules.specs.Tables.{Hold, Phase, idle, running, wounded, waiting, Station, Stations, Table, hold_mode, owned, works, hold_on, running_station, with_hand, put}
+use Rattle.rules.specs.Tables.{Hold, Phase, idle, running, wounded, Station, Stations, Table, hold_mode, owned, works, hold_on, running_station, with_hand, put}
 use Rattle.rules.specs.Operations.{before, seen, adjust, redrafted}
 use Rattle.rules.specs.Calls.{state_of, after, answer}
-use Rattle.rules.proofs.Searches.{contradiction, none_not_some, eqb_refl}
+use Rattle.rules.proofs.Searches.{eqb_refl}
 use Rattle.rules.proofs.Stations.{put_same, put_other}
-use Rattle.law.specs.Observer.{View, turned, caller, names, looked, changed, Event, nothing, starts, notes, told, event, Attempt, continued, Observation, observe}
+use Rattle.law.specs.Observer.{View, turned, caller, looked, changed, Event, nothing, starts, notes, told, event, Attempt, continued, Observation, observe}
 use Rattle.law.proofs.Hands.{hold_on_adjusted, hold_on_others, aspect_adjusted}
 use Rattle.law.proofs.Invariants.{Invariant, resting_waits_not, emptied_adds_nothing, put_keeps, adjusted_adds_nothing, begin_keeps, put_leaves_blocked}
 use Rattle.law.proofs.SerialOrder.{Replays, replays_if_empty_put, replays_if_other_changes, replays_own_change, replays_own_look}
@@ -20,11 +20,7 @@ use Rattle.law.proofs.Consistency.{held_mode, turned_not, Matches, fresh_matches
 
 -- a call that tells nothing tells nothing of any station
 pub silent : {V C : Type 0} (c : Call C) (a : Answer V) (i : ℕ) → told c a ≡ nothing → event c a i ≡ nothing
-silent {V} {C} c a i e = go (names c i)
-  where
-    go : (b : Bool) → cond b (told c a) nothing ≡ nothing
-    go true = e
-    go false = refl
+silent c a i e = grind arith
 
 -- a call tells nothing of a station that it does not name
 pub untold : {V C : Type 0} (k i : ℕ) (ev : Event V C) → (i ≡ k → ⊥) → cond (eqb i k) ev nothing ≡ nothing
@@ -32,17 +28,7 @@ untold k i ev nk = rw (ne_eqb i k nk)
 
 -- a refused call tells nothing
 pub refused_silent : {V C : Type 0} (c : Call C) (why : Refusal) → told {V = V} c (Refused why) ≡ nothing
-refused_silent (Begin k) why = refl
-refused_silent (Take k r m) why = refl
-refused_silent (Look k r) why = refl
-refused_silent (Change k r c) why = refl
-refused_silent (Retire k r) why = refl
-refused_silent (Commit k) why = refl
-refused_silent (GiveUp k) why = refl
-refused_silent (Again k) why = refl
-refused_silent (Standing k) why = refl
-refused_silent (Plotted r) why = refl
-refused_silent Count why = refl
+refused_silent c why = grind arith
 
 -- an attempt whose station is as it was matches, if it replays
 pub carried_on : {V C : Type 0} (apply : V → C → V) (t t' : Stations V) (show show' : ℕ → V) (i : ℕ) (a : Attempt V C)
@@ -92,7 +78,7 @@ module _ {V C : Type 0} (apply : V → C → V) (opening : ℕ → V) (t : Table
   start_consistent c a k s t' w' at_new show_same records_same commits_same tells' e rest starts_it named v positive =
       consistent_step apply opening t t' o c a w w' tells tells' e g.invariant v positive
       (rw at_new (put_leaves_blocked t.stations k new (resting_waits_not (t.stations k).phase rest) refl
-      (λ r h f _. none_not_some (hold_on r (t.stations k).hand) h (ap (hold_on r) none) f) g.blocked))
+      (λ r h f _. cc (ap (hold_on r) none)) g.blocked))
       (λ i _. rw (at_new, show_same) (matches i (cases_eq i k)))
       (rw starts_it g.answers_agree) (rw (starts_it, show_same, records_same) g.values_left)
       (rw (starts_it, commits_same) g.commits_counted)
@@ -104,10 +90,7 @@ module _ {V C : Type 0} (apply : V → C → V) (opening : ℕ → V) (t : Table
       none = g.invariant.empty_handed k rest
 
       was_not_waiting : (p : Phase) → works p ≡ false → turned (state_of p) Running ≡ false
-      was_not_waiting idle q = refl
-      was_not_waiting running q = refl
-      was_not_waiting wounded q = refl
-      was_not_waiting (waiting r m) q = contradiction true refl q
+      was_not_waiting p q = grind arith
 
       matches : (i : ℕ) → (i ≡ k) ⊎ (i ≡ k → ⊥)
           → Matches apply (put t.stations k new) t.show i (continued (suc o.started) (state_of (t.stations i).phase) (state_of (put t.stations k new i).phase) (event c a i) (o.attempts i))

@@ -1,21 +1,20 @@
 -- The law of runs, proved of the rules.
-use Rattle.std.proofs.Common.{◌≡◌, ℕ, suc, ◌<◌, Bool, true, false, cond, eqb, leb, List, [], ◌∷◌, Some, None, Option, sym, refl, ap, ◌∙◌, subst, arith}
-use Rattle.std.proofs.lemmas.Bool.{eqb-false, leb-false, le-leb, lt-leb}
+use Rattle.std.proofs.Common.{◌≡◌, ℕ, suc, ◌<◌, Bool, true, false, leb, List, [], ◌∷◌, Some, None, Option, sym, refl, ap, ◌∙◌, subst, arith}
+use Rattle.std.proofs.lemmas.Bool.{leb-false, le-leb, lt-leb}
+use Rattle.std.proofs.lemmas.Bool.Decides.{nat_tests}
 use Rattle.rules.specs.declared.Refusal.{Refusal}
 use Rattle.rules.specs.declared.Call.{Call}
 use Rattle.rules.specs.declared.Call.TheVariants.{Begin, Take, Look, Change, Retire, Commit, GiveUp, Again, Standing, Plotted, Count}
 use Rattle.rules.specs.declared.Answer.{Answer}
 use Rattle.rules.specs.declared.Answer.TheVariants.{Refused, Value, Committed}
-use Rattle.rules.specs.Tables.{Table, is_wounded, idle_station, put, with_stations}
-use Rattle.rules.specs.Operations.{wound, settle, wounded_by_give_up}
+use Rattle.rules.specs.Tables.{Table, idle_station}
 use Rattle.rules.specs.Calls.{refusals, first_refusal, after, answer, opened}
-use Rattle.rules.proofs.Searches.{contradiction}
 use Rattle.law.specs.Observer.{View, Engine, is_commit, is_over, is_start, Observation, observe, observed}
 use Rattle.law.specs.Alone.{all_left}
 use Rattle.law.specs.Law.{Opening, Serial, Ordered, Live}
 use Rattle.law.specs.Runs.{table, engine, Lawful, AlwaysOrderly}
 use Rattle.law.proofs.Invariants.{Invariant}
-use Rattle.rules.proofs.Admission.{begin_admitted, take_admitted, look_admitted, change_admitted, retire_admitted, commit_admitted, give_up_admitted, again_admitted, refused_not_value, refused_not_committed, step_refused, step_accepted, answer_refused, answer_accepted}
+use Rattle.rules.proofs.Admission.{begin_admitted, take_admitted, look_admitted, change_admitted, retire_admitted, commit_admitted, give_up_admitted, again_admitted, step_refused, step_accepted, answer_refused, answer_accepted}
 use Rattle.law.proofs.Consistency.{fresh_matches, Tells, Consistent, heard_matches}
 use Rattle.law.proofs.PlainCalls.{refused_silent, Following, silent_consistent, begin_consistent, again_consistent, look_consistent, change_consistent}
 use Rattle.law.proofs.FreeingCalls.{retire_consistent, commit_consistent, give_up_consistent, take_consistent}
@@ -50,15 +49,15 @@ module _ {V C : Type 0} (apply : V → C → V) (named : List (Call C) → ℕ) 
   new_invariant : Invariant start.stations start.next_stamp records
   new_invariant =
       record {
-        owned_exclusive = λ i j r h k q _ _ _ _. contradiction true refl (cc);
-        exclusive_wait = λ i j r k q _. contradiction true refl (cc);
-        shared_wait = λ i j r k q _ _. contradiction true refl (cc);
-        in_range = λ i q. contradiction true refl q;
-        stamped = λ i q. contradiction true refl q;
-        apart = λ i j q _ _. contradiction true refl q;
+        owned_exclusive = λ i j r h k q _ _ _ _. cc;
+        exclusive_wait = λ i j r k q _. cc;
+        shared_wait = λ i j r k q _ _. cc;
+        in_range = λ i q. cc;
+        stamped = λ i q. cc;
+        apart = λ i j q _ _. cc;
         empty_handed = λ i q. refl;
-        held_inside = λ i r h q. contradiction true refl (cc);
-        awaited_inside = λ i r m q. contradiction true refl (cc);
+        held_inside = λ i r h q. cc;
+        awaited_inside = λ i r m q. cc;
         awaited_not_held = λ i r m q. refl;
         distinct = λ i. tt;
         room = λ i. omega arith;
@@ -66,11 +65,7 @@ module _ {V C : Type 0} (apply : V → C → V) (named : List (Call C) → ℕ) 
 
   -- the first stamp is above 0
   first_positive : 0 < start.next_stamp
-  first_positive = go (eqb first 0) refl
-    where
-      go : (b : Bool) → eqb first 0 ≡ b → 0 < cond b 1 first
-      go true q = omega arith
-      go false q = let n = eqb-false first 0 q in omega arith
+  first_positive = grind (arith, nat_tests)
 
   -- a call that is not refused: whose attempts it ends
   accepted_ends : (n : ℕ) (t : Table V) (v : Invariant t.stations t.next_stamp t.records) (c : Call C)
@@ -113,7 +108,7 @@ module _ {V C : Type 0} (apply : V → C → V) (named : List (Call C) → ℕ) 
         record {
           invariant = new_invariant;
           next_positive = first_positive;
-          blocked = λ i r m q. contradiction true refl (cc);
+          blocked = λ i r m q. cc;
           matches = λ i. fresh_matches apply (λ i. idle_station) show i 0 refl refl;
           answers_agree = tt;
           values_left = opens;
@@ -185,23 +180,7 @@ module _ {V C : Type 0} (apply : V → C → V) (named : List (Call C) → ℕ) 
   records_stay (c ∷ h) = go (records_stay h) (first_refusal (refusals (named (c ∷ h)) c (table_after h))) refl
     where
       after_same : (c : Call C) (t : Table V) → (after apply c t).records ≡ t.records
-      after_same (Begin k) t = refl
-      after_same (Take k r m) t = refl
-      after_same (Look k r) t = refl
-      after_same (Change k r c) t = refl
-      after_same (Retire k r) t = refl
-      after_same (Commit k) t = refl
-      after_same (GiveUp k) t = by (is_wounded (t.stations k).phase)
-        where
-          by : (b : Bool)
-              → (cond b (with_stations t (put t.stations k idle_station)) (with_stations t (settle t.show (put (wound (wounded_by_give_up t.stations k) t.stations) k idle_station)))).records
-              ≡ t.records
-          by true = refl
-          by false = refl
-      after_same (Again k) t = refl
-      after_same (Standing k) t = refl
-      after_same (Plotted r) t = refl
-      after_same Count t = refl
+      after_same c t = grind arith
 
       go : (table_after h).records ≡ records → (x : Option Refusal)
           → first_refusal (refusals (named (c ∷ h)) c (table_after h)) ≡ x → (table_after (c ∷ h)).records ≡ records
@@ -217,7 +196,7 @@ module _ {V C : Type 0} (apply : V → C → V) (named : List (Call C) → ℕ) 
       go : (b : Bool) → leb records r ≡ b → r < records
       go true l =
           let refused = answer_refused apply (named (Plotted r ∷ [])) (Plotted r) start refusal.Record (rw l) in
-          absurd (refused_not_value refusal.Record v (sym refused ∙ q))
+          cc
       go false l = leb-false records r l
 
   -- opening values are the show's
@@ -236,7 +215,7 @@ module _ {V C : Type 0} (apply : V → C → V) (named : List (Call C) → ℕ) 
           cc
       go (Some why) z =
           let refused = answer_refused apply (named (Commit i ∷ h)) (Commit i) (table_after h) why z in
-          absurd (refused_not_committed why n (sym refused ∙ q))
+          cc
 
   -- the serial part
   serial : (h : List (Call C)) → Serial apply e h
