@@ -1,5 +1,6 @@
 -- The law refuses the empty engines.
-use Rattle.std.proofs.Common.{◌≡◌, ℕ, Bool, true, false, cond, leb, List, [], ◌∷◌, Some, None, refl, ap, arith}
+use Rattle.std.proofs.Common.{◌≡◌, ℕ, List, [], ◌∷◌, refl, ap, arith}
+use Rattle.std.proofs.lemmas.Bool.Decides.{nat_tests}
 use Rattle.rules.specs.declared.Mode.TheVariants.{Exclusive}
 use Rattle.rules.specs.declared.State.TheVariants.{Running, Waiting}
 use Rattle.rules.specs.declared.Call.{Call}
@@ -7,11 +8,10 @@ use Rattle.rules.specs.declared.Call.TheVariants.{Begin, Take, Change, Retire, C
 use Rattle.rules.specs.declared.Answer.{Answer}
 use Rattle.rules.specs.declared.Answer.TheVariants.{Value}
 use Rattle.rules.specs.Operations.{before, bonds, widen, wound, grantable, grant, promote, wounded_by_take, wounded_by_give_up}
-use Rattle.rules.specs.Calls.{outcome, step, opened}
+use Rattle.rules.specs.Calls.{step}
 use Rattle.law.specs.Observer.{state_in, observe}
 use Rattle.law.specs.Law.{Serial, Ordered, Live}
 use Rattle.law.specs.EmptyEngines.{up, engine_of, give_up_wounds_nobody, commit_writes_nothing, commit_always_refuses, take_always_waits, EmptyEnginesRefused}
-use Rattle.rules.specs.declared.Refusal.TheVariants as refusal
 
 -- one change, committed; the newest call comes first
 abbrev committed_change : List (Call ℕ)
@@ -24,11 +24,7 @@ not_both a e f = grind arith
 -- the opening values are 100
 opens_at_100 : (r v : ℕ) → engine_of commit_writes_nothing [] (Plotted r) ≡ Value v → 100 ≡ v
 unfolding commit_writes_nothing step
-opens_at_100 r v e = go (leb 7 r) e
-  where
-    go : (b : Bool) → (outcome up (cond b (Some refusal.Record) None) (Plotted r) (opened 1 (λ r. 100) 7)).0 ≡ Value v → 100 ≡ v
-    go true q = cc
-    go false q = cc
+opens_at_100 r v e = grind (arith, nat_tests)
 
 -- a commit that writes nothing leaves the opening value, where the change run alone leaves another
 writes_nothing_refused : ((h : List (Call ℕ)) → Serial up (engine_of commit_writes_nothing) h) → ⊥

@@ -1,6 +1,6 @@
 -- Which attempts a call starts, ends and lets go on.
 use Rattle.std.proofs.Common.{◌≡◌, ℕ, suc, ◌<◌, Bool, true, false, cond, not, ◌&&◌, eqb, ◌⊎◌, [], length, Some, None, Option, sym, refl, ap, ◌∙◌, inl, inr, arith}
-use Rattle.std.proofs.lemmas.Bool.{eqb-true, eq-eqb, ne_eqb, cases_eq, true_from_ne_false}
+use Rattle.std.proofs.lemmas.Bool.{eqb-true, eq-eqb, ne_eqb, cases_eq}
 use Rattle.std.proofs.lemmas.Bool.Decides.{nat_tests}
 use Rattle.rules.specs.declared.Mode.{Mode}
 use Rattle.rules.specs.declared.Mode.TheVariants.{Exclusive}
@@ -144,7 +144,7 @@ module _ {V C : Type 0} (apply : V → C → V) (t : Table V) (v : Invariant t.s
   start_ends c a k x named starts_it rest w =
       none_end t.stations (put t.stations k x) c a (put_at_work t.stations k x w) (rw starts_it)
       (λ i e. never is_over c a refl (rw starts_it) i e)
-      from_rest (λ i y e. on i y e (cases_eq i k))
+      from_rest on
     where
       untold_of : (i : ℕ) → (i ≡ k → ⊥) → event c a i ≡ nothing
       untold_of i nk = rw named (untold k i (told c a) nk)
@@ -152,12 +152,11 @@ module _ {V C : Type 0} (apply : V → C → V) (t : Table V) (v : Invariant t.s
       from_rest : (i : ℕ) → is_start (event c a i) ≡ true → works (t.stations i).phase ≡ false
       from_rest i e = grind (arith, cases_eq i k, untold_of i)
 
-      on : (i : ℕ) → works (put t.stations k x i).phase ≡ true → is_start (event c a i) ≡ false → (i ≡ k) ⊎ (i ≡ k → ⊥)
+      on : (i : ℕ) → works (put t.stations k x i).phase ≡ true → is_start (event c a i) ≡ false
           → GoesOn (t.stations i) (put t.stations k x i)
-      on i y e (inl ik) =
-          let ev : event c a i ≡ starts = rw (named, eq-eqb i k ik) starts_it in
-          cc (ap is_start ev)
-      on i y e (inr nk) = same_goes_on (t.stations i) (put t.stations k x i) (put_other t.stations k x i nk) y
+      on i = put_cases (λ s. works s.phase ≡ true → is_start (event c a i) ≡ false → GoesOn (t.stations i) s) t.stations k x i
+          (λ ik _ e. let ev : event c a i ≡ starts = rw (named, eq-eqb i k ik) starts_it in cc (ap is_start ev))
+          (λ _ y _. same_goes_on (t.stations i) (t.stations i) refl y)
 
   -- begin starts an attempt and ends none
   pub begin_ends : (k : ℕ) → (t.stations k).phase ≡ idle → EndsOf (Begin k)
@@ -290,9 +289,9 @@ module _ {V C : Type 0} (apply : V → C → V) (t : Table V) (v : Invariant t.s
         record {
           out = members;
           closed = closed_under_younger_holders v first;
-          ended = λ i e. settling_works mid t.next_stamp t.records t.show v' i ∙ rests i e (cases_eq i k);
+          ended = λ i e. settling_works mid t.next_stamp t.records t.show v' i ∙ rests i e;
           only = λ j w n. inr
-              (only_members j w (sym (settling_works mid t.next_stamp t.records t.show v' j) ∙ n) (cases_eq j k));
+              (only_members j w (sym (settling_works mid t.next_stamp t.records t.show v' j) ∙ n));
           younger = young;
           free = λ i e. never is_commit c a refl no_commit i e;
           over = λ i e. let p = over_k i e in settling_works mid t.next_stamp t.records t.show v' i ∙ rw
@@ -305,15 +304,11 @@ module _ {V C : Type 0} (apply : V → C → V) (t : Table V) (v : Invariant t.s
         after_wounding : Stations V
         after_wounding = wound (widen t.stations first) t.stations
 
-        rests : (i : ℕ) → members i ≡ true → (i ≡ k) ⊎ (i ≡ k → ⊥) → works (mid i).phase ≡ false
-        rests i e (inl ik) = rw (ik, put_same after_wounding k x) (ends_k i ik e)
-        rests i e (inr nk) = rw (put_other after_wounding k x i nk) (wounded_rests members t.stations i e)
+        rests : (i : ℕ) → members i ≡ true → works (mid i).phase ≡ false
+        rests i e = grind (arith, nat_tests, ends_k i, wounded_rests members t.stations i)
 
-        only_members : (j : ℕ) → works (t.stations j).phase ≡ true → works (mid j).phase ≡ false → (j ≡ k) ⊎ (j ≡ k → ⊥)
-            → members j ≡ true
-        only_members j w n (inl jk) = rw jk (only_k (rw jk at w) (rw (jk, put_same after_wounding k x) at n))
-        only_members j w n (inr nk) = true_from_ne_false (members j)
-            (λ e. cc (rw (put_other after_wounding k x j nk, spared_same members t.stations j e) at n))
+        only_members : (j : ℕ) → works (t.stations j).phase ≡ true → works (mid j).phase ≡ false → members j ≡ true
+        only_members j w n = grind (arith, nat_tests, only_k, spared_same members t.stations j)
 
         on : (i : ℕ) → works (mid i).phase ≡ true → (i ≡ k) ⊎ (i ≡ k → ⊥) → GoesOn (t.stations i) (mid i)
         on i w (inl ik) = rw (ik, put_same after_wounding k x) (on_k (rw (ik, put_same after_wounding k x) at w))

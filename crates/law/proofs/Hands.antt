@@ -1,6 +1,6 @@
 -- Hands: the hold on a record, a hold adjusted, drafts and bonds.
-use Rattle.std.proofs.Common.{◌≡◌, ℕ, suc, ◌<◌, ◌≤◌, Bool, true, false, cond, eqb, List, [], ◌∷◌, length, Some, None, Option, refl, arith}
-use Rattle.std.proofs.lemmas.Bool.{cases_eq, lt-ltb, le-ltb}
+use Rattle.std.proofs.Common.{◌≡◌, ℕ, suc, ◌<◌, Bool, true, false, cond, eqb, List, [], ◌∷◌, length, Some, None, Option, refl, arith}
+use Rattle.std.proofs.lemmas.Bool.{cases_eq, lt-ltb}
 use Rattle.std.proofs.lemmas.Bool.Decides.{nat_tests}
 use Rattle.rules.specs.declared.Mode.{Mode}
 use Rattle.rules.specs.declared.Mode.TheVariants.{Exclusive}
@@ -87,10 +87,6 @@ draft_is_exclusive o d e = grind arith
 
 -- the draft that station j has of record r, as it counts for station i
 module _ {V : Type 0} (t : Stations V) (i r j : ℕ) where
-  -- a station that is not older counts for nothing
-  pub younger_counts_not : (t i).stamp ≤ (t j).stamp → older_draft t i r j ≡ None
-  younger_counts_not l = rw (le-ltb (t j).stamp (t i).stamp l)
-
   -- a station without a draft counts for nothing
   pub without_draft_counts_not : draft_in (hold_on r (t j).hand) ≡ None → older_draft t i r j ≡ None
   without_draft_counts_not e = grind arith

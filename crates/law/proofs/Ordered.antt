@@ -1,8 +1,8 @@
 -- The ordered part: predecessors are at work or committed, and commit first.
 use Rattle.std.proofs.Common.{◌≡◌, ℕ, zero, suc, ◌<◌, Bool, true, false, cond, ◌&&◌, ◌||◌, eqb, ◌⊎◌, List, [], ◌∷◌, Some, None, Option, sym, refl, ap, ◌∙◌, inl, inr, arith}
-use Rattle.std.specs.List.{AllByRecursion}
-use Rattle.std.proofs.ByRecursion.{All-append, All-weaker}
-use Rattle.std.proofs.lemmas.Bool.{eq-eqb, both_ways, or_left, or_right, and_parts, and_from, ltb-true, false_from_ne_true}
+use Rattle.std.specs.List.{All, AllByRecursion}
+use Rattle.std.proofs.lemmas.List.Elements.{recursion_from_All, All-nil, All-cons, All-append, All-weaker}
+use Rattle.std.proofs.lemmas.Bool.{eq-eqb, both_ways, or_left, or_right, and_parts, and_from, ltb-true, false_from_ne_true, cond_both}
 use Rattle.std.proofs.lemmas.Bool.Decides.{nat_tests}
 use Rattle.rules.specs.declared.Mode.{Mode}
 use Rattle.rules.specs.declared.Mode.TheVariants.{Exclusive}
@@ -35,7 +35,7 @@ module _ {V C : Type 0} where
   -- all predecessors are so, and those of committed attempts were committed before them
   pub record InOrder (t : Stations V) (o : Observation V C) : Type 0 where
     pub committed_in_order : CommittedInOrder o.committed
-    pub precede : (i : ℕ) → works (t i).phase ≡ true → AllByRecursion (λ p. Precedes t o i p) (o.attempts i).predecessors
+    pub precede : (i : ℕ) → works (t i).phase ≡ true → All (Precedes t o i) (o.attempts i).predecessors
 
   -- who is committed stays so
   still_committed : (p : ℕ) (ev : Event V C) (k : Option ℕ) (attempts : ℕ → Attempt V C) (committed : List (Attempt V C))
@@ -148,26 +148,25 @@ module _ {V C : Type 0} (apply : V → C → V) (t t' : Table V) (o : Observatio
 
   -- those that hold the record at its grant precede
   holders_precede : (i r : ℕ) (k : Hold V) → works (t'.stations i).phase ≡ true → hold_on r (t'.stations i).hand ≡ Some k
-      → (n : ℕ) → AllByRecursion (λ p. Precedes t'.stations after_it i p) (older_holders w' (heard w c w' o) i r n)
-  holders_precede i r k b f zero = tt
-  holders_precede i r k b f (suc n) = go (older_than w' n i && exclusively ((heard w c w' o n).held r)) refl
-      (holders_precede i r k b f n)
-    where
-      go : (y : Bool) → (older_than w' n i && exclusively ((heard w c w' o n).held r)) ≡ y
-          → AllByRecursion (λ p. Precedes t'.stations after_it i p) (older_holders w' (heard w c w' o) i r n)
-          → AllByRecursion (λ p. Precedes t'.stations after_it i p) (cond y ((heard w c w' o n).number ∷ older_holders w' (heard w c w' o) i r n) (older_holders w' (heard w c w' o) i r n))
-      go true q ih = let p = and_parts (older_than w' n i) (exclusively ((heard w c w' o n).held r)) q in
-          (inr (n, holder_ahead i r n k b f p.0 p.1), ih)
-      go false q ih = ih
+      → (n : ℕ) → All (Precedes t'.stations after_it i) (older_holders w' (heard w c w' o) i r n)
+  holders_precede i r k b f zero = All-nil (Precedes t'.stations after_it i)
+  holders_precede i r k b f (suc n) =
+      let more = older_holders w' (heard w c w' o) i r n in
+      let there = holders_precede i r k b f n in
+      cond_both (older_than w' n i && exclusively ((heard w c w' o n).held r)) ((heard w c w' o n).number ∷ more) more
+      (All (Precedes t'.stations after_it i))
+      (λ q. let p = and_parts (older_than w' n i) (exclusively ((heard w c w' o n).held r)) q in
+      All-cons (Precedes t'.stations after_it i) (heard w c w' o n).number more (inr (n, holder_ahead i r n k b f p.0 p.1)) there)
+      (λ _. there)
 
   -- the predecessors that a call adds precede
   added_precede : (i : ℕ) → works (t'.stations i).phase ≡ true
-      → AllByRecursion (λ p. Precedes t'.stations after_it i p) (predecessors_at w' (heard w c w' o) i (grant_of i))
+      → All (Precedes t'.stations after_it i) (predecessors_at w' (heard w c w' o) i (grant_of i))
   added_precede i b = go (grant_of i) refl
     where
       go : (p : Option (ℕ × Mode)) → grant_of i ≡ p
-          → AllByRecursion (λ p. Precedes t'.stations after_it i p) (predecessors_at w' (heard w c w' o) i p)
-      go None q = tt
+          → All (Precedes t'.stations after_it i) (predecessors_at w' (heard w c w' o) i p)
+      go None q = All-nil (Precedes t'.stations after_it i)
       go (Some (r, m)) q =
           let held : (heard w c w' o i).held r ≡ Some m = ap (λ (x : Attempt V C). x.held r) (heard_at_work i b) ∙ granted_held
           (grant_of i) r m (after_event (suc o.started) (event c (w c) i) (o.attempts i)) q in
@@ -215,10 +214,10 @@ module _ {V C : Type 0} (apply : V → C → V) (t t' : Table V) (o : Observatio
 
   -- the predecessors of an attempt at work precede
   precede_after : (i : ℕ) → works (t'.stations i).phase ≡ true
-      → AllByRecursion (λ p. Precedes t'.stations after_it i p) (after_it.attempts i).predecessors
+      → All (Precedes t'.stations after_it i) (after_it.attempts i).predecessors
   unfolding observe
   precede_after i b =
-      All-append (λ p. Precedes t'.stations after_it i p) (predecessors_at w' (heard w c w' o) i (grant_of i))
+      All-append (Precedes t'.stations after_it i) (predecessors_at w' (heard w c w' o) i (grant_of i))
       (heard w c w' o i).predecessors (added_precede i b) (old (is_start (event c a i)) refl)
     where
       same : (heard w c w' o i).predecessors ≡ (after_event (suc o.started) (event c (w c) i) (o.attempts i)).predecessors
@@ -226,13 +225,13 @@ module _ {V C : Type 0} (apply : V → C → V) (t t' : Table V) (o : Observatio
           (after_event (suc o.started) (event c (w c) i) (o.attempts i))).1
 
       old : (y : Bool) → is_start (event c a i) ≡ y
-          → AllByRecursion (λ p. Precedes t'.stations after_it i p) (heard w c w' o i).predecessors
-      old true q = rw (same ∙ start_no_predecessors (suc o.started) (event c (w c) i) (o.attempts i) (rw e q)) tt
+          → All (Precedes t'.stations after_it i) (heard w c w' o i).predecessors
+      old true q = rw (same ∙ start_no_predecessors (suc o.started) (event c (w c) i) (o.attempts i) (rw e q))
+          (All-nil (Precedes t'.stations after_it i))
       old false q =
           let on = endings.goes_on i b q in
           rw (same ∙ (event_same_number (suc o.started) (event c (w c) i) (o.attempts i) (rw e q) (rw e (not_over i b))).1)
-          (All-weaker (λ p. Precedes t.stations o i p) (λ p. Precedes t'.stations after_it i p)
-          (λ p x. still_precedes i p b on x) (o.attempts i).predecessors (order.precede i on.was_at_work))
+          (All-weaker (Precedes t.stations o i) (Precedes t'.stations after_it i) (λ p. still_precedes i p b on) (o.attempts i).predecessors (order.precede i on.was_at_work))
 
   -- who commits has only committed predecessors
   commits_in_order : CommittedInOrder (commits_after (told c a) (caller c) o.attempts o.committed)
@@ -244,8 +243,8 @@ module _ {V C : Type 0} (apply : V → C → V) (t t' : Table V) (o : Observatio
       go true q None n = order.committed_in_order
       go true q (Some k) n = (
         order.committed_in_order,
-        All-weaker (λ p. Precedes t.stations o k p)
-            (λ p. is_committed p o.committed ≡ true) by (o.attempts k).predecessors (order.precede k free.0),
+        recursion_from_All (λ p. is_committed p o.committed ≡ true) (o.attempts k).predecessors (All-weaker (Precedes t.stations o k)
+            (λ p. is_committed p o.committed ≡ true) by (o.attempts k).predecessors (order.precede k free.0)),
       )
         where
           free : (works (t.stations k).phase ≡ true) × (bonds t.stations k ≡ 0)
@@ -265,9 +264,9 @@ pub ordered_from : {V C : Type 0} {w : View V C} {t : Table V} → Tells w t →
     → (o : Observation V C) → InOrder t.stations o → (i : ℕ) → at_work w i ≡ true
     → AllByRecursion (λ p. (attempt_at_work w o.attempts p || is_committed p o.committed) ≡ true) (o.attempts i).predecessors
 ordered_from {V} {C} {w} {t} tells v o order i b =
-    All-weaker (λ p. Precedes t.stations o i p)
-    (λ p. (attempt_at_work w o.attempts p || is_committed p o.committed) ≡ true) by (o.attempts i).predecessors
-    (order.precede i (sym (at_work_told tells v i) ∙ b))
+    recursion_from_All (λ p. (attempt_at_work w o.attempts p || is_committed p o.committed) ≡ true) (o.attempts i).predecessors
+    (All-weaker (Precedes t.stations o i) (λ p. (attempt_at_work w o.attempts p || is_committed p o.committed) ≡ true) by
+    (o.attempts i).predecessors (order.precede i (sym (at_work_told tells v i) ∙ b)))
   where
     by : (p : ℕ) → Precedes t.stations o i p → (attempt_at_work w o.attempts p || is_committed p o.committed) ≡ true
     by p (inl x) = or_right (attempt_at_work w o.attempts p) (is_committed p o.committed) x

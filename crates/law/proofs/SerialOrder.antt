@@ -8,7 +8,6 @@ use Rattle.rules.specs.declared.Mode.TheVariants.{Shared, Exclusive}
 use Rattle.rules.specs.declared.Stage.TheVariants.{Owned}
 use Rattle.rules.specs.Tables.{Hold, waiting, Station, Stations, hold_mode, owned, is_idle, hold_on, draft_in, idle_station, with_hand, put}
 use Rattle.rules.specs.Operations.{youngest, older_draft, before, or_else, seen, bonds, wound, draft_for, granted_station, adjust, redrafted}
-use Rattle.rules.proofs.Searches.{eqb_refl}
 use Rattle.rules.proofs.Stations.{put_cases, put_same, put_other}
 use Rattle.law.specs.Observer.{stamp, Entry, looked, changed}
 use Rattle.law.specs.Alone.{left, Agrees}
@@ -154,7 +153,7 @@ module _ {V C : Type 0} (apply : V → C → V) where
     -- the attempt itself replays with the change
     pub replays_own_change : (l : List (Entry V C)) → Replays apply t show k l
         → Replays apply changed_table show k (changed q c (apply d c) ∷ l)
-    replays_own_change l s vs p = ((old.0, rw at_q), λ r. go r (cases_eq r q))
+    replays_own_change l s vs p = ((old.0, rw at_q), go)
       where
         here : (changed_table k).hand ≡ changed_hand
         here = rw (put_same t k (with_hand (t k) changed_hand))
@@ -175,10 +174,8 @@ module _ {V C : Type 0} (apply : V → C → V) where
         at_q : left apply l vs q ≡ d
         at_q = old.1 q ∙ rw (e, w)
 
-        go : (r : ℕ) → (r ≡ q) ⊎ (r ≡ q → ⊥)
-            → cond (eqb r q) (apply (left apply l vs q) c) (left apply l vs r) ≡ seen (changed_table k).hand vs r
-        go r (inl eq) = rw (eq, eqb_refl q, at_q, here, changed_at)
-        go r (inr nq) = rw (ne_eqb r q nq, here, changed_elsewhere r nq) (old.1 r)
+        go : (r : ℕ) → cond (eqb r q) (apply (left apply l vs q) c) (left apply l vs r) ≡ seen (changed_table k).hand vs r
+        go r = grind (arith, nat_tests, at_q, here, changed_at, changed_elsewhere r, old.1 r)
 
   -- a look answers what the entries so far leave
   pub replays_own_look : (t : Stations V) (show : ℕ → V) (k q : ℕ) (h : Hold V) → hold_on q (t k).hand ≡ Some h

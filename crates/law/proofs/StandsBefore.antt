@@ -1,5 +1,5 @@
 -- What stands before a hold, and the changes that leave it as it was.
-use Rattle.std.proofs.Common.{◌≡◌, ℕ, zero, suc, ◌<◌, ◌≤◌, ◌⊎◌, Some, None, Option, sym, refl, ap, ◌∙◌, inl, inr, arith}
+use Rattle.std.proofs.Common.{◌≡◌, ℕ, zero, suc, ◌<◌, ◌≤◌, ◌⊎◌, Some, None, Option, refl, ap, ◌∙◌, inl, inr, arith}
 use Rattle.std.proofs.lemmas.Bool.{cases_eq}
 use Rattle.std.proofs.lemmas.Bool.Decides.{nat_tests}
 use Rattle.rules.specs.Tables.{Stations}
@@ -62,28 +62,13 @@ module _ {V : Type 0} where
               ap (λ (p : ℕ × V). p.1) only ∙ same
             where
               none : (j : ℕ) → j < n → c' j ≡ None
-              none j lj = by (cases_eq j k) (c' j) refl
-                where
-                  by : (j ≡ k) ⊎ (j ≡ k → ⊥) → (o : Option V) → c' j ≡ o → c' j ≡ None
-                  by (inl u) o h = rw u gone
-                  by (inr u) None h = h
-                  by (inr u) (Some x) h =
-                      let cj : c j ≡ Some x = sym (rest j u).0 ∙ h in
-                      let sk : s r.0 ≡ s k = ap s q in
-                      absurd (omega (arith, least j x lj cj u, younger j x lj cj))
+              none j lj = grind (arith, cases_eq j k, rest j, least j, younger j)
           pick (inr q) =
               youngest_is s' c' d n r.0 (youngest s c v n).1 r.1 ((rest r.0 q).0 ∙ r.2)
               (rw (rest r.0 q).1 (omega (arith, least r.0 (youngest s c v n).1 r.1 r.2 q))) others
             where
               others : (j : ℕ) (x : V) → j < n → c' j ≡ Some x → (j ≡ r.0 → ⊥) → s' j < s' r.0
-              others j x lj h ne =
-                  let nk = kept j x h in
-                  let cj : c j ≡ Some x = sym (rest j nk).0 ∙ h in
-                  rw ((rest j nk).1, (rest r.0 q).1) (by (cases_eq (s j) (s r.0)) cj)
-                where
-                  by : (s j ≡ s r.0) ⊎ (s j ≡ s r.0 → ⊥) → c j ≡ Some x → s j < s r.0
-                  by (inl u) cj = absurd (ne (apart j r.0 x (youngest s c v n).1 cj r.2 u))
-                  by (inr u) cj = omega (arith, younger j x lj cj)
+              others j x lj h ne = grind (arith, kept j x, rest j, rest r.0 q, apart j r.0 x (youngest s c v n).1, younger j x lj)
 
 -- station j counts for station i at record r as it did: with the same stamp and draft, or for nothing
 abbrev pub CountsAlike : {V : Type 0} → Stations V → Stations V → ℕ → ℕ → ℕ → Type 0

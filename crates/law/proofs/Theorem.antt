@@ -1,7 +1,8 @@
 -- The law of runs, proved of the rules.
-use Rattle.std.proofs.Common.{◌≡◌, ℕ, suc, ◌<◌, Bool, true, false, leb, List, [], ◌∷◌, Some, None, Option, sym, refl, ap, ◌∙◌, subst, arith}
-use Rattle.std.proofs.lemmas.Bool.{leb-false, le-leb, lt-leb}
+use Rattle.std.proofs.Common.{◌≡◌, ℕ, suc, ◌<◌, List, [], ◌∷◌, Some, None, Option, sym, refl, ap, ◌∙◌, subst, inl, inr, arith}
+use Rattle.std.proofs.lemmas.Bool.{le-leb, lt-leb, cases_lt}
 use Rattle.std.proofs.lemmas.Bool.Decides.{nat_tests}
+use Rattle.std.proofs.lemmas.List.Elements.{All-nil}
 use Rattle.rules.specs.declared.Refusal.{Refusal}
 use Rattle.rules.specs.declared.Call.{Call}
 use Rattle.rules.specs.declared.Call.TheVariants.{Begin, Take, Look, Change, Retire, Commit, GiveUp, Again, Standing, Plotted, Count}
@@ -47,21 +48,7 @@ module _ {V C : Type 0} (apply : V → C → V) (named : List (Call C) → ℕ) 
 
   -- a new table has the invariants
   new_invariant : Invariant start.stations start.next_stamp records
-  new_invariant =
-      record {
-        owned_exclusive = λ i j r h k q _ _ _ _. cc;
-        exclusive_wait = λ i j r k q _. cc;
-        shared_wait = λ i j r k q _ _. cc;
-        in_range = λ i q. cc;
-        stamped = λ i q. cc;
-        apart = λ i j q _ _. cc;
-        empty_handed = λ i q. refl;
-        held_inside = λ i r h q. cc;
-        awaited_inside = λ i r m q. cc;
-        awaited_not_held = λ i r m q. refl;
-        distinct = λ i. tt;
-        room = λ i. omega arith;
-      }
+  new_invariant = grind arith
 
   -- the first stamp is above 0
   first_positive : 0 < start.next_stamp
@@ -191,13 +178,10 @@ module _ {V C : Type 0} (apply : V → C → V) (named : List (Call C) → ℕ) 
 
   -- a record of which plotted tells a value is one of the show's
   value_told_inside : (r : ℕ) (v : V) → e [] (Plotted r) ≡ Value v → r < records
-  value_told_inside r v q = go (leb records r) refl
-    where
-      go : (b : Bool) → leb records r ≡ b → r < records
-      go true l =
-          let refused = answer_refused apply (named (Plotted r ∷ [])) (Plotted r) start refusal.Record (rw l) in
-          cc
-      go false l = leb-false records r l
+  value_told_inside r v q = elim (cases_lt r records) [
+    | inl l ↦ l
+    | inr l ↦ cc (answer_refused apply (named (Plotted r ∷ [])) (Plotted r) start refusal.Record (rw (le-leb records r l)))
+  ]
 
   -- opening values are the show's
   opening_is_show : (opening : ℕ → V) → Opening e opening → (r : ℕ) → r < records → show r ≡ opening r
@@ -209,13 +193,8 @@ module _ {V C : Type 0} (apply : V → C → V) (named : List (Call C) → ℕ) 
     where
       go : (x : Option Refusal) → first_refusal (refusals {C = C} (named (Commit i ∷ h)) (Commit i) (table_after h)) ≡ x
           → n ≡ suc (table_after h).commits
-      go None z =
-          let accepted = answer_accepted apply (named (Commit i ∷ h)) (Commit i) (table_after h) z in
-          let same : Committed n ≡ Committed (suc (table_after h).commits) = sym q ∙ accepted in
-          cc
-      go (Some why) z =
-          let refused = answer_refused apply (named (Commit i ∷ h)) (Commit i) (table_after h) why z in
-          cc
+      go None z = cc (answer_accepted apply (named (Commit i ∷ h)) (Commit i) (table_after h) z)
+      go (Some why) z = cc (answer_refused apply (named (Commit i ∷ h)) (Commit i) (table_after h) why z)
 
   -- the serial part
   serial : (h : List (Call C)) → Serial apply e h
@@ -230,7 +209,7 @@ module _ {V C : Type 0} (apply : V → C → V) (named : List (Call C) → ℕ) 
 
   -- attempts are in order after every list of calls
   in_order : (h : List (Call C)) → InOrder (table_after h).stations (observed e h)
-  in_order [] = record { committed_in_order = tt; precede = λ i b. tt }
+  in_order [] = record { committed_in_order = tt; precede = λ i b. All-nil _ }
   in_order (c ∷ h) =
       in_order_after apply (table_after h) (table_after (c ∷ h)) (observed e h) c (e h c) (e h) (e (c ∷ h)) refl (tells (c ∷ h))
       (show_consistent h).invariant (show_consistent (c ∷ h)).invariant (next_ends h (show_consistent h).invariant c)
