@@ -41,24 +41,17 @@ module _ {V C : Type 0} (apply : V → C → V) where
   -- a new attempt matches a station that holds nothing and does not wait
   pub fresh_matches : (t : Stations V) (show : ℕ → V) (i n : ℕ) → (t i).hand ≡ [] → is_waiting (t i).phase ≡ false
       → Matches t show i (fresh n)
-  fresh_matches t show i n e w =
-      record {
-        replays = nothing_replays apply t show i e;
-        holds_observed = λ r. rw e;
-        wait_observed = λ r m f. cc (rw f at w);
-      }
+  fresh_matches t show i n e w = grind (arith, nothing_replays)
 
   -- an attempt matches by its entries, its holds and its wait alone
   pub matches_by_parts : (t : Stations V) (show : ℕ → V) (i : ℕ) (ps : List ℕ) (a : Attempt V C) → Matches t show i a
       → Matches t show i (with_predecessors ps a)
-  matches_by_parts t show i ps a k = record
-      { replays = k.replays; holds_observed = k.holds_observed; wait_observed = k.wait_observed }
+  matches_by_parts t show i ps a k = assumption
 
   -- so its predecessors may be left out
   pub matches_without : (t : Stations V) (show : ℕ → V) (i : ℕ) (ps : List ℕ) (a : Attempt V C)
       → Matches t show i (with_predecessors ps a) → Matches t show i a
-  matches_without t show i ps a k = record
-      { replays = k.replays; holds_observed = k.holds_observed; wait_observed = k.wait_observed }
+  matches_without t show i ps a k = assumption
 
   -- an attempt after a call matches, if it does where it is at work
   pub followed_matches : {t : Stations V} {next records : ℕ} → Invariant t next records
@@ -74,9 +67,7 @@ module _ {V C : Type 0} (apply : V → C → V) where
   -- a station that is as it was, and of which nothing was told
   pub untouched_matches : (t t' : Stations V) (show : ℕ → V) (i n : ℕ) (ev : Event V C) (a : Attempt V C) → t' i ≡ t i
       → ev ≡ nothing → Matches t' show i a → Matches t' show i (continued n (state_of (t i).phase) (state_of (t' i).phase) ev a)
-  untouched_matches t t' show i n ev a e none k =
-      let s : turned (state_of (t i).phase) (state_of (t' i).phase) ≡ false = rw e (turned_not (t i).phase) in
-      rw (none, s) k
+  untouched_matches t t' show i n ev a e none k = grind (arith, turned_not)
 
   -- an attempt whose station stays or is granted what it waited for
   pub moved_matches : (t u : Stations V) (show : ℕ → V) (i : ℕ) (a : Attempt V C) → Matches t show i a
@@ -142,7 +133,7 @@ module _ {V C : Type 0} (apply : V → C → V) where
   pub settled_untold : (u : Stations V) (show : ℕ → V) (i n : ℕ) (ev : Event V C) (a : Attempt V C) (p p' : Phase) (is : State)
       → p ≡ p' → ev ≡ nothing → Matches u show i (with_grant (cond (turned (state_of p) is) a.awaiting None) a)
       → Matches u show i (continued n (state_of p') is ev a)
-  settled_untold u show i n ev a p p' is e none k = rw (none, ← e) k
+  settled_untold u show i n ev a p p' is e none k = grind arith
 
 -- What an engine tells of a table.
 

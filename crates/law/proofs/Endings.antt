@@ -1,5 +1,5 @@
 -- Which attempts a call starts, ends and lets go on.
-use Rattle.std.proofs.Common.{◌≡◌, ℕ, suc, ◌<◌, Bool, true, false, cond, not, ◌&&◌, eqb, ◌⊎◌, [], length, Some, None, Option, sym, refl, ap, ◌∙◌, inl, inr, arith}
+use Rattle.std.proofs.Common.{◌≡◌, ℕ, suc, ◌<◌, Bool, true, false, cond, not, ◌&&◌, eqb, ◌⊎◌, [], length, Some, None, sym, refl, ap, ◌∙◌, inl, inr, arith}
 use Rattle.std.proofs.lemmas.Bool.{eqb-true, eq-eqb, ne_eqb, cases_eq}
 use Rattle.std.proofs.lemmas.Bool.Decides.{nat_tests}
 use Rattle.rules.specs.declared.Mode.{Mode}
@@ -60,12 +60,7 @@ same_goes_on s s' e w = record { was_at_work = rw (← e) w; same_stamp = rw e; 
 -- who goes on to a hand with the same modes
 modes_go_on : {V : Type 0} (s s' : Station V) → works s.phase ≡ true → s'.stamp ≡ s.stamp
     → ((r : ℕ) → held_mode (hold_on r s'.hand) ≡ held_mode (hold_on r s.hand)) → GoesOn s s'
-modes_go_on {V} s s' w stamp modes = record
-    { was_at_work = w; same_stamp = stamp; keeps_holds = λ r h f. go (hold_on r s'.hand) h (modes r ∙ ap held_mode f) }
-  where
-    go : (x : Option (Hold V)) (h : Hold V) → held_mode x ≡ Some (hold_mode h)
-        → (h' : Hold V) × (x ≡ Some h') × (hold_mode h' ≡ hold_mode h)
-    go x h e = grind arith
+modes_go_on s s' w stamp modes = grind (arith, modes)
 
 -- who goes on to mid goes on through settling
 settled_goes_on : {V : Type 0} (s : Stations V) (mid : Stations V) (next records : ℕ) (show : ℕ → V) → Invariant mid next records

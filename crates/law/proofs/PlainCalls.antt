@@ -33,13 +33,7 @@ refused_silent c why = grind arith
 -- an attempt whose station is as it was matches, if it replays
 pub carried_on : {V C : Type 0} (apply : V → C → V) (t t' : Stations V) (show show' : ℕ → V) (i : ℕ) (a : Attempt V C)
     → t' i ≡ t i → Replays apply t' show' i a.entries → Matches apply t show i a → Matches apply t' show' i a
-carried_on apply t t' show show' i a here replays k =
-    record {
-      replays = replays;
-      holds_observed = λ r. rw here (k.holds_observed r);
-      wait_observed = λ r m w. k.wait_observed r m
-          (rw here at w);
-    }
+carried_on apply t t' show show' i a here replays k = grind (arith, replays)
 
 module _ {V C : Type 0} (apply : V → C → V) (opening : ℕ → V) (t : Table V) (o : Observation V C)
     (g : Consistent apply opening t o) (w : View V C) (tells : Tells w t) where

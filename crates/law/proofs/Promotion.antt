@@ -173,11 +173,7 @@ module _ {V : Type 0} (t : Stations V) (next records : ℕ) (show : ℕ → V) w
 
     -- settling neither starts nor ends an attempt
     pub settling_works : (i : ℕ) → works (settle show t i).phase ≡ works (t i).phase
-    settling_works i = go (settle show t i) (settling_keeps.moved i)
-      where
-        go : (s : Station V) → StaysOrGranted (t i) s → works s.phase ≡ works (t i).phase
-        go s (stays e) = rw e
-        go s (is_granted r m d w e) = rw (e, w)
+    settling_works i = grind (arith, settling_keeps.moved i)
 
     -- every attempt replays as before
     pub settling_replays : {C : Type 0} (apply : V → C → V) (entries : ℕ → List (Entry V C))
