@@ -1,15 +1,14 @@
 -- Which attempts a call starts, ends and lets go on.
-use Rattle.std.proofs.Common.{◌≡◌, ℕ, suc, ◌<◌, Bool, true, false, cond, not, ◌&&◌, eqb, ◌⊎◌, [], length, Some, None, sym, refl, ap, ◌∙◌, inl, inr, arith}
-use Rattle.std.proofs.lemmas.Bool.{eqb-true, eq-eqb, ne_eqb, cases_eq}
+use Rattle.std.proofs.Common.{◌≡◌, ℕ, ◌<◌, Bool, true, false, cond, eqb, ◌⊎◌, [], length, Some, None, sym, refl, ap, ◌∙◌, inl, inr, arith}
+use Rattle.std.proofs.lemmas.Bool.{eqb-true, eq-eqb, cases_eq, cases_Bool}
 use Rattle.std.proofs.lemmas.Bool.Decides.{nat_tests}
 use Rattle.rules.specs.declared.Mode.{Mode}
 use Rattle.rules.specs.declared.Mode.TheVariants.{Exclusive}
 use Rattle.rules.specs.declared.Call.{Call}
 use Rattle.rules.specs.declared.Call.TheVariants.{Begin, Take, Change, Retire, Commit, GiveUp, Again}
 use Rattle.rules.specs.declared.Answer.{Answer}
-use Rattle.rules.specs.declared.Answer.TheVariants.{Number, Committed}
-use Rattle.rules.specs.Searches.{count_below}
-use Rattle.rules.specs.Tables.{Hold, Phase, idle, running, wounded, waiting, Station, Stations, Table, hold_mode, owned, is_idle, works, hold_on, idle_station, running_station, waiting_station, with_hand, put}
+use Rattle.rules.specs.declared.Answer.TheVariants.{Number}
+use Rattle.rules.specs.Tables.{Hold, idle, running, wounded, Station, Stations, Table, hold_mode, owned, is_idle, works, hold_on, idle_station, running_station, waiting_station, with_hand, put, is_wounded}
 use Rattle.rules.specs.Operations.{seen, bonds, widen, wound, granted_station, settle, must_yield, wounded_by_take, wounded_by_give_up, adjust, retired, redrafted}
 use Rattle.rules.specs.Calls.{after, answer}
 use Rattle.rules.proofs.Searches.{eqb_refl}
@@ -17,7 +16,7 @@ use Rattle.rules.proofs.Stations.{put_cases, put_same, put_other}
 use Rattle.rules.proofs.Widening.{widened_has_first}
 use Rattle.law.specs.Observer.{stamp, caller, names, Event, nothing, starts, commits, ends, waits, gets, told, event, is_commit, is_over, is_start}
 use Rattle.law.proofs.Hands.{aspect_adjusted}
-use Rattle.law.proofs.Invariants.{Invariant, works_not_idle, emptied_adds_nothing, put_keeps, adjusted_adds_nothing}
+use Rattle.law.proofs.Invariants.{Invariant, works_not_idle, put_keeps, adjusted_adds_nothing, idle_keeps}
 use Rattle.law.proofs.Wounding.{closed_under_younger_holders, members_at_work, at_work_spared, spared_same, wounded_rests, wounding_keeps, yielding_at_work, take_keeps}
 use Rattle.rules.proofs.Spared.{members_no_older, taker_older, taker_spared}
 use Rattle.law.proofs.Promotion.{StaysOrGranted, stays, is_granted, settling_keeps, settling_works}
@@ -78,16 +77,8 @@ settled_goes_on {V} s mid next records show v on i w = go (settle show mid i) ((
       where
         keeps : (q : ℕ) (h : Hold V) → hold_on q (s i).hand ≡ Some h
             → (h' : Hold V) × (hold_on q (granted_station (mid i) r m d).hand ≡ Some h') × (hold_mode h' ≡ hold_mode h)
-        keeps q h f =
-            let p = g.keeps_holds q h f in
-            let apart : eqb r q ≡ false = ne_eqb r q
-            (λ rq. let none : hold_on q (mid i).hand ≡ None = rw (← rq) (v.awaited_not_held i r m wait) in cc (p.1)) in
-            (p.0, rw apart p.1, p.2)
-
--- what is not told is not so of any station
-never : {V C X : Type 0} (test : Event V C → Bool) (c : Call C) (a : Answer V) → test nothing ≡ false → test (told c a) ≡ false
-    → (i : ℕ) → test (event c a i) ≡ true → X
-never test c a none it i e = grind arith
+        keeps q h f = let p = g.keeps_holds q h f in
+            (p.0, grind (arith, nat_tests, v.awaited_not_held i r m, p.1), p.2)
 
 -- a call that ends nobody's attempt
 none_end : {V C : Type 0} (t t' : Stations V) (c : Call C) (a : Answer V)
@@ -102,7 +93,7 @@ none_end t t' c a keep no_commit over from_rest on =
       ended = λ i e. cc;
       only = λ j w n. cc (keep j w);
       younger = λ i e. cc;
-      free = λ i e. never is_commit c a refl no_commit i e;
+      free = λ i e. grind arith;
       over = over;
       starts_from_rest = from_rest;
       goes_on = on;
@@ -113,14 +104,14 @@ pub unchanged_ends_none : {V C : Type 0} (t : Stations V) (c : Call C) (a : Answ
     → is_over (told c a) ≡ false → is_start (told c a) ≡ false → Ends t t c a
 unchanged_ends_none t c a no_commit not_over no_start =
     none_end t t c a (λ j w. w) no_commit
-    (λ i e. never is_over c a refl not_over i e)
-    (λ i e. never is_start c a refl no_start i e)
+    (λ i e. grind arith)
+    (λ i e. grind arith)
     (λ i w _. same_goes_on (t i) (t i) refl w)
 
 -- a station put that is at work leaves everybody at work who was
 put_at_work : {V : Type 0} (t : Stations V) (k : ℕ) (x : Station V) → works x.phase ≡ true → (j : ℕ)
     → works (t j).phase ≡ true → works (put t k x j).phase ≡ true
-put_at_work t k x w j = put_cases (λ s. works (t j).phase ≡ true → works s.phase ≡ true) t k x j (λ _ _. w) (λ _ h. h)
+put_at_work t k x w j e = grind arith
 
 -- a station put idle lets everybody go on who is at work then
 idle_goes_on : {V : Type 0} (t : Stations V) (k i : ℕ) → works (put t k idle_station i).phase ≡ true
@@ -138,7 +129,7 @@ module _ {V C : Type 0} (apply : V → C → V) (t : Table V) (v : Invariant t.s
       → works (t.stations k).phase ≡ false → works x.phase ≡ true → Ends t.stations (put t.stations k x) c a
   start_ends c a k x named starts_it rest w =
       none_end t.stations (put t.stations k x) c a (put_at_work t.stations k x w) (rw starts_it)
-      (λ i e. never is_over c a refl (rw starts_it) i e)
+      (λ i e. grind arith)
       from_rest on
     where
       untold_of : (i : ℕ) → (i ≡ k → ⊥) → event c a i ≡ nothing
@@ -189,8 +180,8 @@ module _ {V C : Type 0} (apply : V → C → V) (t : Table V) (v : Invariant t.s
   change_ends k r c was (h, at_r, own, (d, drafted)) =
       none_end t.stations (adjusted change_hold (λ _. refl) k r h at_r mode was) (Change k r c) (answer apply (Change k r c) t)
       (adjusted_at_work change_hold (λ _. refl) k r h at_r mode was) refl
-      (λ i e. never is_over (Change k r c) (answer apply (Change k r c) t) refl refl i e)
-      (λ i e. never is_start (Change k r c) (answer apply (Change k r c) t) refl refl i e)
+      (λ i e. grind arith)
+      (λ i e. grind arith)
       (λ i w _. adjusted_goes_on change_hold (λ _. refl) k r h at_r mode was i w)
     where
       change_hold : Hold V → Hold V
@@ -206,8 +197,8 @@ module _ {V C : Type 0} (apply : V → C → V) (t : Table V) (v : Invariant t.s
       none_end t.stations (settle t.show mid) (Retire k r) (answer apply (Retire k r) t)
       (λ j w. settling_works mid t.next_stamp t.records t.show v' j ∙ adjusted_at_work retired (λ _. refl) k r h at_r
       refl was j w) refl
-      (λ i e. never is_over (Retire k r) (answer apply (Retire k r) t) refl refl i e)
-      (λ i e. never is_start (Retire k r) (answer apply (Retire k r) t) refl refl i e)
+      (λ i e. grind arith)
+      (λ i e. grind arith)
       (λ i w _. settled_goes_on t.stations mid t.next_stamp t.records t.show v'
       (adjusted_goes_on retired (λ _. refl) k r h at_r refl was) i w)
     where
@@ -217,12 +208,6 @@ module _ {V C : Type 0} (apply : V → C → V) (t : Table V) (v : Invariant t.s
       v' : Invariant mid t.next_stamp t.records
       v' = put_keeps v k (with_hand (t.stations k) (adjust r retired (t.stations k).hand))
           (adjusted_adds_nothing retired (λ _. refl) (t.stations k) r h at_r refl (λ x. cc) (rw was))
-
-  -- the stations with k idle keep the invariants
-  idle_keeps : (s : Stations V) → Invariant s t.next_stamp t.records → (k : ℕ)
-      → Invariant (put s k idle_station) t.next_stamp t.records
-  idle_keeps s w k = put_keeps w k idle_station
-      (emptied_adds_nothing (s k) idle_station refl refl (λ q. cc))
 
   -- commit ends the attempt that it commits, and no other
   pub commit_ends : (k : ℕ) → (t.stations k).phase ≡ running → bonds t.stations k ≡ 0 → EndsOf (Commit k)
@@ -236,7 +221,7 @@ module _ {V C : Type 0} (apply : V → C → V) (t : Table V) (v : Invariant t.s
         younger = λ i e. cc;
         free = by;
         over = λ i e. settling_works mid t.next_stamp t.records show' v' i ∙ over_at i e;
-        starts_from_rest = λ i e. never is_start (Commit k) (Committed (suc t.commits)) refl refl i e;
+        starts_from_rest = λ i e. grind arith;
         goes_on = λ i w _. settled_goes_on t.stations mid t.next_stamp t.records show' v' (idle_goes_on t.stations k) i w;
       }
     where
@@ -247,7 +232,7 @@ module _ {V C : Type 0} (apply : V → C → V) (t : Table V) (v : Invariant t.s
       show' = seen (t.stations k).hand t.show
 
       v' : Invariant mid t.next_stamp t.records
-      v' = idle_keeps t.stations v k
+      v' = idle_keeps v k
 
       commits_it : (j : ℕ) → works (t.stations j).phase ≡ true → works (mid j).phase ≡ false
           → is_commit {V = V} {C = C} (cond (eqb j k) commits nothing) ≡ true
@@ -288,10 +273,10 @@ module _ {V C : Type 0} (apply : V → C → V) (t : Table V) (v : Invariant t.s
           only = λ j w n. inr
               (only_members j w (sym (settling_works mid t.next_stamp t.records t.show v' j) ∙ n));
           younger = young;
-          free = λ i e. never is_commit c a refl no_commit i e;
+          free = λ i e. grind arith;
           over = λ i e. let p = over_k i e in settling_works mid t.next_stamp t.records t.show v' i ∙ rw
               (p.0, put_same after_wounding k x) p.1;
-          starts_from_rest = λ i e. never is_start c a refl no_start i e;
+          starts_from_rest = λ i e. grind arith;
           goes_on = λ i w _. settled_goes_on t.stations mid t.next_stamp t.records t.show v'
               (λ i w. on i w (cases_eq i k)) i w;
         }
@@ -323,7 +308,7 @@ module _ {V C : Type 0} (apply : V → C → V) (t : Table V) (v : Invariant t.s
       (λ _ n. cc)
       (λ i e. inr (k, rw was, taker_older t.stations k r m i e))
       (λ _. rw taker_same (modes_go_on (t.stations k) (waiting_station (t.stations k) r m) (rw was) refl (λ _. refl)))
-      (λ i e. never is_over (Take k r m) (answer apply (Take k r m) t) refl (tells_none is_over refl refl) i e)
+      (λ i e. grind arith)
     where
       first : ℕ → Bool
       first = must_yield t.stations k r m
@@ -343,8 +328,7 @@ module _ {V C : Type 0} (apply : V → C → V) (t : Table V) (v : Invariant t.s
       → Ends {C = C} t.stations (settle t.show (put (wound (widen t.stations (λ j. eqb j k)) t.stations) k idle_station)) (GiveUp k) (Number n)
   give_up_at_work_ends k was n =
       wounding_ends (GiveUp k) (Number n) refl refl (λ j. eqb j k) base k idle_station
-      (idle_keeps (wound (widen t.stations (λ j. eqb j k)) t.stations)
-      (wounding_keeps v (widen t.stations (λ j. eqb j k)) (members_at_work v (λ j. eqb j k) base)) k)
+      (idle_keeps (wounding_keeps v (widen t.stations (λ j. eqb j k)) (members_at_work v (λ j. eqb j k) base)) k)
       (λ _ _ _. refl) (λ _ _. widened_has_first t.stations (λ j. eqb j k) k (eqb_refl k)) (λ i e. young i e (cases_eq i k))
       (λ e. cc) (λ i e. (caller_over i e, refl))
     where
@@ -373,7 +357,7 @@ module _ {V C : Type 0} (apply : V → C → V) (t : Table V) (v : Invariant t.s
       → Ends {C = C} t.stations (put t.stations k idle_station) (GiveUp k) (Number n)
   give_up_wounded_ends k was n =
       none_end t.stations (put t.stations k idle_station) (GiveUp k) (Number n) still refl over_at
-      (λ i e. never is_start (GiveUp k) (Number n) refl refl i e) (λ i w _. idle_goes_on t.stations k i w)
+      (λ i e. grind arith) (λ i w _. idle_goes_on t.stations k i w)
     where
       over_at : (i : ℕ) → is_over {V = V} {C = C} (cond (eqb i k) ends nothing) ≡ true
           → works (put t.stations k idle_station i).phase ≡ false
@@ -385,12 +369,7 @@ module _ {V C : Type 0} (apply : V → C → V) (t : Table V) (v : Invariant t.s
   -- give up ends its own attempt and those of the followers
   pub give_up_ends : (k : ℕ) → is_idle (t.stations k).phase ≡ false → EndsOf (GiveUp k)
   unfolding wounded_by_give_up
-  give_up_ends k busy = go (t.stations k).phase refl
-    where
-      go : (p : Phase) → (t.stations k).phase ≡ p → EndsOf (GiveUp k)
-      go idle q = cc (rw q at busy)
-      go running q = rw q
-          (give_up_at_work_ends k (rw q) (count_below 16 (λ j. not (eqb j k) && widen t.stations (λ i. eqb i k) j)))
-      go wounded q = rw q (give_up_wounded_ends k q 0)
-      go (waiting r m) q = rw q
-          (give_up_at_work_ends k (rw q) (count_below 16 (λ j. not (eqb j k) && widen t.stations (λ i. eqb i k) j)))
+  give_up_ends k busy = elim (cases_Bool (is_wounded (t.stations k).phase)) [
+    | inl q ↦ rw q (give_up_wounded_ends k (grind arith) _)
+    | inr q ↦ rw q (give_up_at_work_ends k (grind arith) _)
+  ]

@@ -1,6 +1,6 @@
 -- The calls that free something, and so settle, keep table and observation together: take, retire, commit and give up.
-use Rattle.std.proofs.Common.{◌≡◌, ℕ, suc, ◌<◌, Bool, true, false, cond, not, ◌&&◌, eqb, ◌⊎◌, [], length, is_some, Some, None, Option, sym, refl, ap, ◌∙◌, subst, inl, inr, arith}
-use Rattle.std.proofs.lemmas.Bool.{eqb-true, ne_eqb, cases_eq}
+use Rattle.std.proofs.Common.{◌≡◌, ℕ, suc, ◌<◌, Bool, true, false, cond, eqb, ◌⊎◌, [], length, is_some, Some, None, Option, sym, refl, ap, ◌∙◌, subst, inl, inr, arith}
+use Rattle.std.proofs.lemmas.Bool.{eqb-true, ne_eqb, cases_eq, cases_Bool}
 use Rattle.rules.specs.declared.Mode.{Mode}
 use Rattle.rules.specs.declared.State.TheVariants.{Running, Waiting}
 use Rattle.rules.specs.declared.Outcome.TheVariants.{Granted, Waits}
@@ -9,7 +9,7 @@ use Rattle.rules.specs.declared.Call.TheVariants.{Take, Retire, Commit, GiveUp}
 use Rattle.rules.specs.declared.Answer.{Answer}
 use Rattle.rules.specs.declared.Answer.TheVariants.{Number, Taken, Committed}
 use Rattle.rules.specs.Searches.{count_below}
-use Rattle.rules.specs.Tables.{Hold, Phase, idle, running, wounded, waiting, Station, Stations, Table, owned, is_idle, is_waiting, works, hold_on, draft_in, idle_station, waiting_station, with_hand, put, with_stations}
+use Rattle.rules.specs.Tables.{Hold, Phase, idle, running, wounded, waiting, Station, Stations, Table, owned, is_idle, is_waiting, works, hold_on, draft_in, idle_station, waiting_station, with_hand, put, with_stations, is_wounded}
 use Rattle.rules.specs.Operations.{or_else, seen, bonds, widen, wound, settle, must_yield, wounded_by_take, wounded_by_give_up, adjust, retired}
 use Rattle.rules.specs.Calls.{state_of, after, answer}
 use Rattle.rules.proofs.Searches.{eqb_refl}
@@ -18,7 +18,7 @@ use Rattle.rules.proofs.Widening.{widened_has_first}
 use Rattle.law.specs.Observer.{View, turned, Event, nothing, commits, ends, waits, taken_by, told, event, is_commit, Attempt, after_event, with_grant, continued, Observation, observe}
 use Rattle.law.specs.Alone.{left, Agrees, all_left}
 use Rattle.law.proofs.Hands.{aspect_adjusted}
-use Rattle.law.proofs.Invariants.{Invariant, emptied_adds_nothing, put_keeps, adjusted_adds_nothing, put_leaves_blocked}
+use Rattle.law.proofs.Invariants.{Invariant, put_keeps, adjusted_adds_nothing, put_leaves_blocked, idle_keeps}
 use Rattle.law.proofs.Wounding.{closed_under_younger_holders, members_at_work, at_work_spared, spared_same, wounded_empty, wounding_keeps, yielding_at_work, take_keeps}
 use Rattle.rules.proofs.Spared.{taker_spared}
 use Rattle.law.proofs.SerialOrder.{Replays, replays_if_drafts_same, replays_if_empty_put, replays_if_closed_set_wounded, before_free_is_plotted, replays_if_other_commits}
@@ -103,8 +103,7 @@ module _ {V C : Type 0} (apply : V → C → V) (opening : ℕ → V) (t : Table
       show' = seen (t.stations k).hand t.show
 
       v : Invariant mid t.next_stamp t.records
-      v = put_keeps g.invariant k idle_station
-          (emptied_adds_nothing (t.stations k) idle_station refl refl (λ q. cc))
+      v = idle_keeps g.invariant k
 
       rests : (i : ℕ) → i ≡ k → works (mid i).phase ≡ false
       rests i ik = rw (ik, put_same t.stations k idle_station)
@@ -170,8 +169,7 @@ module _ {V C : Type 0} (apply : V → C → V) (opening : ℕ → V) (t : Table
   give_up_wounded k was n w' tells' e =
       consistent_step apply opening t (with_stations t (put t.stations k idle_station)) o (GiveUp k) (Number n) w w' tells
       tells' e g.invariant
-      (put_keeps g.invariant k idle_station
-      (emptied_adds_nothing (t.stations k) idle_station refl refl (λ q. cc))) g.next_positive
+      (idle_keeps g.invariant k) g.next_positive
       (put_leaves_blocked t.stations k idle_station (rw was) refl
       (λ r h f _. cc (ap (hold_on r) none)) g.blocked)
       (λ i x. matches i x (cases_eq i k)) g.answers_agree g.values_left g.commits_counted
@@ -192,8 +190,7 @@ module _ {V C : Type 0} (apply : V → C → V) (opening : ℕ → V) (t : Table
       → Consistent apply opening (with_stations t (settle t.show (put (wound (widen t.stations (λ j. eqb j k)) t.stations) k idle_station))) (observe w (GiveUp k) w' o)
   give_up_at_work k was n w' tells' e =
       settling_consistent (GiveUp k) (Number n) mid w' tells' e refl
-      (put_keeps (wounded_invariant (λ j. eqb j k) base) k idle_station
-      (emptied_adds_nothing (after_wounding k) idle_station refl refl (λ q. cc)))
+      (idle_keeps (wounded_invariant (λ j. eqb j k) base) k)
       (λ i x. let q = spared i x (cases_eq i k) in (
         rw
             (same i q.0, spared_same (widen t.stations (λ j. eqb j k)) t.stations i q.1),
@@ -230,17 +227,10 @@ module _ {V C : Type 0} (apply : V → C → V) (opening : ℕ → V) (t : Table
   -- give up keeps table and observation together
   pub give_up_consistent : (k : ℕ) → is_idle (t.stations k).phase ≡ false → Following apply opening t o g w tells (GiveUp k)
   unfolding wounded_by_give_up
-  give_up_consistent k busy w' tells' e = go (t.stations k).phase refl tells' e
-    where
-      count : ℕ
-      count = count_below 16 (λ j. not (eqb j k) && widen t.stations (λ i. eqb i k) j)
-
-      go : (p : Phase) → (t.stations k).phase ≡ p → Tells w' (after apply (GiveUp k) t) → w (GiveUp k) ≡ answer apply (GiveUp k) t
-          → Consistent apply opening (after apply (GiveUp k) t) (observe w (GiveUp k) w' o)
-      go idle q x y = cc (rw q at busy)
-      go running q x y = rw q (give_up_at_work k (rw q) count w' (rw q at x) (rw q at y))
-      go wounded q x y = rw q (give_up_wounded k q 0 w' (rw q at x) (rw q at y))
-      go (waiting r m) q x y = rw q (give_up_at_work k (rw q) count w' (rw q at x) (rw q at y))
+  give_up_consistent k busy w' tells' e = elim (cases_Bool (is_wounded (t.stations k).phase)) [
+    | inl q ↦ rw q (give_up_wounded k (grind arith) _ w' (rw q at tells') (rw q at e))
+    | inr q ↦ rw q (give_up_at_work k (grind arith) _ w' (rw q at tells') (rw q at e))
+  ]
 
   -- the taker's attempt matches after settling, by the answer that it got
   taker_matches : (u : Stations V) (show : ℕ → V) (k n : ℕ) (a : Attempt V C) (r : ℕ) (m : Mode) (count : ℕ) (p : Phase)

@@ -4,7 +4,7 @@ use Rattle.std.proofs.lemmas.Bool.{cases_eq, cond_both}
 use Rattle.std.proofs.lemmas.Bool.Decides.{nat_tests}
 use Rattle.rules.specs.declared.Mode.{Mode}
 use Rattle.rules.specs.declared.Mode.TheVariants.{Shared, Exclusive}
-use Rattle.rules.specs.Tables.{Hold, Phase, running, waiting, Station, Stations, conflict, mode_with, hold_mode, owned, is_idle, is_waiting, works, hold_on, running_station, waiting_station, with_hand, put}
+use Rattle.rules.specs.Tables.{Hold, Phase, running, waiting, Station, Stations, conflict, mode_with, hold_mode, owned, is_idle, is_waiting, works, hold_on, running_station, waiting_station, with_hand, put, idle_station}
 use Rattle.rules.specs.Operations.{draft_for, granted_station, adjust}
 use Rattle.rules.specs.Orderly.{Distinct}
 use Rattle.rules.proofs.Stations.{put_cases, put_same, put_other}
@@ -128,6 +128,11 @@ put_adds_nothing {V} {t} v k x s i = put_cases (λ y. AddsNothing (t i) y) t k x
 pub put_keeps : {V : Type 0} {t : Stations V} {next records : ℕ} → Invariant t next records → (k : ℕ) (x : Station V)
     → AddsNothing (t k) x → Invariant (put t k x) next records
 put_keeps {t = t} v k x s = adding_nothing_keeps (put t k x) v (put_adds_nothing v k x s)
+
+-- so do the stations with one put idle
+pub idle_keeps : {V : Type 0} {t : Stations V} {next records : ℕ} → Invariant t next records → (k : ℕ)
+    → Invariant (put t k idle_station) next records
+idle_keeps {t = t} v k = put_keeps v k idle_station (emptied_adds_nothing (t k) idle_station refl refl (λ q. cc))
 
 -- a hold adjusted in its draft or stage, but neither in its mode nor from retired to owned
 module _ {V : Type 0} (f : Hold V → Hold V) (keeps : (h : Hold V) → (f h).record_number ≡ h.record_number) where
