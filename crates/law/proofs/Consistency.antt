@@ -1,5 +1,5 @@
 -- How the table and what was observed belong together, and how one call carries that on.
-use Rattle.std.proofs.Common.{◌≡◌, ℕ, suc, ◌<◌, ◌≤◌, true, false, cond, eqb, List, [], length, Some, None, Option, sym, ap, ◌∙◌, inl, inr, arith}
+use Rattle.std.proofs.Common.{◌≡◌, ℕ, suc, ◌<◌, ◌≤◌, true, false, cond, List, [], length, Some, None, Option, sym, ap, ◌∙◌, inl, inr, arith}
 use Rattle.std.proofs.lemmas.Bool.{cond_both, cases_lt}
 use Rattle.std.proofs.lemmas.Bool.Decides.{nat_tests}
 use Rattle.rules.specs.declared.Mode.{Mode}
@@ -8,8 +8,8 @@ use Rattle.rules.specs.declared.Call.{Call}
 use Rattle.rules.specs.declared.Call.TheVariants.{Standing}
 use Rattle.rules.specs.declared.Answer.{Answer}
 use Rattle.rules.specs.declared.Answer.TheVariants.{Refused, Stands}
-use Rattle.rules.specs.Tables.{Hold, Phase, idle, running, waiting, Stations, Table, hold_mode, is_waiting, works, hold_on, older}
-use Rattle.rules.specs.Operations.{granted_station, settle}
+use Rattle.rules.specs.Tables.{Hold, Phase, idle, waiting, Stations, Table, hold_mode, is_waiting, works, hold_on, older}
+use Rattle.rules.specs.Operations.{settle}
 use Rattle.rules.specs.Calls.{state_of, stamp_of, standing_of}
 use Rattle.law.specs.Observer.{View, state_in, stamp_in, working, turned, state, stamp, at_work, older_than, caller, Entry, Event, nothing, told, event, Attempt, fresh, granted_of, with_grant, continued, followed, predecessors_at, with_predecessors, Observation, commits_after, heard, observe}
 use Rattle.law.specs.Alone.{all_left, AllAgree}
@@ -64,6 +64,11 @@ module _ {V C : Type 0} (apply : V → C → V) where
       (λ b. let e = sym (working_works (t i).phase) ∙ b in
       fresh_matches t show i 0 (v.empty_handed i e) (resting_waits_not (t i).phase e))
 
+  -- an attempt whose station is as it was matches, if it replays
+  pub carried_on : (t t' : Stations V) (show show' : ℕ → V) (i : ℕ) (a : Attempt V C) → t' i ≡ t i
+      → Replays apply t' show' i a.entries → Matches t show i a → Matches t' show' i a
+  carried_on t t' show show' i a here replays k = grind (arith, replays)
+
   -- a station that is as it was, and of which nothing was told
   pub untouched_matches : (t t' : Stations V) (show : ℕ → V) (i n : ℕ) (ev : Event V C) (a : Attempt V C) → t' i ≡ t i
       → ev ≡ nothing → Matches t' show i a → Matches t' show i (continued n (state_of (t i).phase) (state_of (t' i).phase) ev a)
@@ -75,23 +80,10 @@ module _ {V C : Type 0} (apply : V → C → V) where
       → Matches u show i (with_grant (cond (turned (state_of (t i).phase) (state_of (u i).phase)) a.awaiting None) a)
   moved_matches t u show i a k f (stays e) =
       let same : turned (state_of (t i).phase) (state_of (u i).phase) ≡ false = rw e (turned_not (t i).phase) in
-      rw same (record {
-        replays = f;
-        holds_observed = λ r. rw e (k.holds_observed r);
-        wait_observed = λ r m w. k.wait_observed r
-            m (rw e at w);
-      })
+      rw same (carried_on t u show show i a e f k)
   moved_matches t u show i a k f (is_granted r m d w e) =
       let same : turned (state_of (t i).phase) (state_of (u i).phase) ≡ true = rw (e, w) in
-      rw (same, k.wait_observed r m w)
-      (record {
-        replays = f;
-        holds_observed = λ q. rw e (by q);
-        wait_observed = λ q mq wq. let x : running ≡ waiting q mq = rw e at wq in cc;
-      })
-    where
-      by : (q : ℕ) → cond (eqb q r) (Some m) (a.held q) ≡ held_mode (hold_on q (granted_station (t i) r m d).hand)
-      by q = grind (arith, nat_tests, mode_granted m d, k.holds_observed q)
+      rw (same, k.wait_observed r m w) (grind (arith, nat_tests, f, mode_granted m d))
 
   -- what is so after settling t, if each attempt at work matched before
   pub record Settled (t u : Stations V) (next records : ℕ) (show : ℕ → V) (attempts : ℕ → Attempt V C) : Type 0 where

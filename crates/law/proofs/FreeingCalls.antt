@@ -1,6 +1,7 @@
 -- The calls that free something, and so settle, keep table and observation together: take, retire, commit and give up.
 use Rattle.std.proofs.Common.{◌≡◌, ℕ, suc, ◌<◌, Bool, true, false, cond, eqb, ◌⊎◌, [], length, is_some, Some, None, Option, sym, refl, ap, ◌∙◌, subst, inl, inr, arith}
 use Rattle.std.proofs.lemmas.Bool.{eqb-true, ne_eqb, cases_eq, cases_Bool}
+use Rattle.std.proofs.lemmas.Bool.Decides.{nat_tests}
 use Rattle.rules.specs.declared.Mode.{Mode}
 use Rattle.rules.specs.declared.State.TheVariants.{Running, Waiting}
 use Rattle.rules.specs.declared.Outcome.TheVariants.{Granted, Waits}
@@ -22,8 +23,8 @@ use Rattle.law.proofs.Invariants.{Invariant, put_keeps, adjusted_adds_nothing, p
 use Rattle.law.proofs.Wounding.{closed_under_younger_holders, members_at_work, at_work_spared, spared_same, wounded_empty, wounding_keeps, yielding_at_work, take_keeps}
 use Rattle.rules.proofs.Spared.{taker_spared}
 use Rattle.law.proofs.SerialOrder.{Replays, replays_if_drafts_same, replays_if_empty_put, replays_if_closed_set_wounded, before_free_is_plotted, replays_if_other_commits}
-use Rattle.law.proofs.Consistency.{held_mode, Matches, Settled, settled, settled_untold, Tells, Consistent, consistent_step}
-use Rattle.law.proofs.PlainCalls.{silent, untold, carried_on, Following, others_match}
+use Rattle.law.proofs.Consistency.{held_mode, Matches, Settled, settled, settled_untold, Tells, Consistent, consistent_step, carried_on}
+use Rattle.law.proofs.PlainCalls.{silent, untold, Following, others_match}
 
 module _ {V C : Type 0} (apply : V → C → V) (opening : ℕ → V) (t : Table V) (o : Observation V C)
     (g : Consistent apply opening t o) (w : View V C) (tells : Tells w t) where
@@ -62,10 +63,10 @@ module _ {V C : Type 0} (apply : V → C → V) (opening : ℕ → V) (t : Table
       mid = put t.stations k new
 
       phase : (i : ℕ) → (mid i).phase ≡ (t.stations i).phase
-      phase i = put_cases (λ s. s.phase ≡ (t.stations i).phase) t.stations k new i (λ q. rw q) (λ _. refl)
+      phase i = grind (arith, nat_tests)
 
       stamps : (i : ℕ) → (mid i).stamp ≡ (t.stations i).stamp
-      stamps i = put_cases (λ s. s.stamp ≡ (t.stations i).stamp) t.stations k new i (λ q. rw q) (λ _. refl)
+      stamps i = grind (arith, nat_tests)
 
       -- retiring leaves every aspect of a hold but its stage
       aspect_kept : {X : Type 0} (aspect : Option (Hold V) → X) → aspect (Some (retired h)) ≡ aspect (Some h) → (j q : ℕ)
@@ -293,10 +294,10 @@ module _ {V C : Type 0} (apply : V → C → V) (opening : ℕ → V) (t : Table
       taker_waits = rw (put_same after_wounding k new)
 
       hands : (i : ℕ) → (mid i).hand ≡ (after_wounding i).hand
-      hands i = put_cases (λ s. s.hand ≡ (after_wounding i).hand) after_wounding k new i (λ q. rw q) (λ _. refl)
+      hands i = grind (arith, nat_tests)
 
       stamps : (i : ℕ) → (mid i).stamp ≡ (after_wounding i).stamp
-      stamps i = put_cases (λ s. s.stamp ≡ (after_wounding i).stamp) after_wounding k new i (λ q. rw q) (λ _. refl)
+      stamps i = grind (arith, nat_tests)
 
       replays : (i : ℕ) → members i ≡ false → Replays apply mid t.show i (o.attempts i).entries
       replays i mi = replays_if_drafts_same apply after_wounding mid t.show i (o.attempts i).entries stamps
@@ -316,7 +317,7 @@ module _ {V C : Type 0} (apply : V → C → V) (opening : ℕ → V) (t : Table
           (record {
             replays = replays k spared;
             holds_observed = λ q. rw (hands k) (taker.holds_observed q);
-            wait_observed = λ q mq y. (let z = taker_waits in let a : r ≡ q = cc in let b : m ≡ mq = cc in rw (a, b));
+            wait_observed = λ q mq y. grind (arith, taker_waits);
           })
 
       u : Stations V

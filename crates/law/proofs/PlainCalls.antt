@@ -7,16 +7,16 @@ use Rattle.rules.specs.declared.Call.{Call}
 use Rattle.rules.specs.declared.Call.TheVariants.{Begin, Look, Change, Again}
 use Rattle.rules.specs.declared.Answer.{Answer}
 use Rattle.rules.specs.declared.Answer.TheVariants.{Refused, Number, Value}
-use Rattle.rules.specs.Tables.{Hold, Phase, idle, running, wounded, Station, Stations, Table, hold_mode, owned, works, hold_on, running_station, with_hand, put}
+use Rattle.rules.specs.Tables.{Hold, Phase, idle, running, wounded, Station, Table, hold_mode, owned, works, hold_on, running_station, with_hand, put}
 use Rattle.rules.specs.Operations.{before, seen, adjust, redrafted}
-use Rattle.rules.specs.Calls.{state_of, after, answer}
+use Rattle.rules.specs.Calls.{state_of, after, answer, owns}
 use Rattle.rules.proofs.Searches.{eqb_refl}
 use Rattle.rules.proofs.Stations.{put_same, put_other}
-use Rattle.law.specs.Observer.{View, turned, caller, looked, changed, Event, nothing, starts, notes, told, event, Attempt, continued, Observation, observe}
-use Rattle.law.proofs.Hands.{hold_on_adjusted, hold_on_others, aspect_adjusted}
+use Rattle.law.specs.Observer.{View, turned, caller, looked, changed, Event, nothing, starts, notes, told, event, continued, Observation, observe}
+use Rattle.law.proofs.Hands.{hold_on_adjusted, aspect_adjusted}
 use Rattle.law.proofs.Invariants.{Invariant, resting_waits_not, emptied_adds_nothing, put_keeps, adjusted_adds_nothing, begin_keeps, put_leaves_blocked}
-use Rattle.law.proofs.SerialOrder.{Replays, replays_if_empty_put, replays_if_other_changes, replays_own_change, replays_own_look}
-use Rattle.law.proofs.Consistency.{held_mode, turned_not, Matches, fresh_matches, untouched_matches, Tells, Consistent, consistent_step}
+use Rattle.law.proofs.SerialOrder.{replays_if_empty_put, replays_if_other_changes, replays_own_change, replays_own_look}
+use Rattle.law.proofs.Consistency.{held_mode, turned_not, Matches, fresh_matches, untouched_matches, Tells, Consistent, consistent_step, carried_on}
 
 -- a call that tells nothing tells nothing of any station
 pub silent : {V C : Type 0} (c : Call C) (a : Answer V) (i : ℕ) → told c a ≡ nothing → event c a i ≡ nothing
@@ -29,11 +29,6 @@ untold k i ev nk = rw (ne_eqb i k nk)
 -- a refused call tells nothing
 pub refused_silent : {V C : Type 0} (c : Call C) (why : Refusal) → told {V = V} c (Refused why) ≡ nothing
 refused_silent c why = grind arith
-
--- an attempt whose station is as it was matches, if it replays
-pub carried_on : {V C : Type 0} (apply : V → C → V) (t t' : Stations V) (show show' : ℕ → V) (i : ℕ) (a : Attempt V C)
-    → t' i ≡ t i → Replays apply t' show' i a.entries → Matches apply t show i a → Matches apply t' show' i a
-carried_on apply t t' show show' i a here replays k = grind (arith, replays)
 
 module _ {V C : Type 0} (apply : V → C → V) (opening : ℕ → V) (t : Table V) (o : Observation V C)
     (g : Consistent apply opening t o) (w : View V C) (tells : Tells w t) where
@@ -161,20 +156,14 @@ module _ {V C : Type 0} (apply : V → C → V) (opening : ℕ → V) (t : Table
 
       owned_kept : (q : ℕ) (x : Hold V) → hold_on q (t.stations k).hand ≡ Some x → owned x ≡ true
           → (new.stamp ≡ (t.stations k).stamp) × ((x' : Hold V) × (hold_on q new.hand ≡ Some x') × (owned x' ≡ true) × (hold_mode x' ≡ hold_mode x))
-      owned_kept q x f own_x = (refl, by (cases_eq q r))
+      owned_kept q x f own_x = (refl, by)
         where
-          by : (q ≡ r) ⊎ (q ≡ r → ⊥)
-              → (x' : Hold V) × (hold_on q new.hand ≡ Some x') × (owned x' ≡ true) × (hold_mode x' ≡ hold_mode x)
-          by (inl qr) =
-              let there : hold_on r (t.stations k).hand ≡ Some x = rw qr at f in
-              let same : h ≡ x = cc in (
-                change_hold h,
-                rw qr (hold_on_adjusted change_hold (λ _. refl) r (t.stations k).hand h at_r),
-                own,
-                rw (← same)
-                    mode,
-              )
-          by (inr nq) = (x, hold_on_others change_hold (λ _. refl) r q (t.stations k).hand nq ∙ f, own_x, refl)
+          by : (x' : Hold V) × (hold_on q new.hand ≡ Some x') × (owned x' ≡ true) × (hold_mode x' ≡ hold_mode x)
+          by = grind (
+            arith,
+            aspect_adjusted change_hold (λ _. refl) r held_mode (t.stations k).hand h at_r (ap Some mode) q,
+            aspect_adjusted change_hold (λ _. refl) r owns (t.stations k).hand h at_r refl q,
+          )
 
       matches : (i : ℕ) → (i ≡ k) ⊎ (i ≡ k → ⊥)
           → Matches apply (put t.stations k new) t.show i (continued (suc o.started) (state_of (t.stations i).phase) (state_of (put t.stations k new i).phase) (event (Change k r c) (Value (apply d c)) i) (o.attempts i))

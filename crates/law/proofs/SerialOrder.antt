@@ -8,7 +8,7 @@ use Rattle.rules.specs.declared.Mode.TheVariants.{Shared, Exclusive}
 use Rattle.rules.specs.declared.Stage.TheVariants.{Owned}
 use Rattle.rules.specs.Tables.{Hold, waiting, Station, Stations, hold_mode, owned, is_idle, hold_on, draft_in, idle_station, with_hand, put}
 use Rattle.rules.specs.Operations.{youngest, older_draft, before, or_else, seen, bonds, wound, draft_for, granted_station, adjust, redrafted}
-use Rattle.rules.proofs.Stations.{put_cases, put_same, put_other}
+use Rattle.rules.proofs.Stations.{put_same, put_other}
 use Rattle.law.specs.Observer.{stamp, Entry, looked, changed}
 use Rattle.law.specs.Alone.{left, Agrees}
 use Rattle.law.proofs.Hands.{hold_on_adjusted, hold_on_others, no_bonds_no_conflict, draft_is_exclusive, without_draft_counts_not, older_draft_parts, no_older_draft}
@@ -92,7 +92,7 @@ module _ {V C : Type 0} (apply : V → C → V) where
 
     -- the stamps are as they were
     stamp_in_redrafted : (j : ℕ) → (redrafted_table j).stamp ≡ (t j).stamp
-    stamp_in_redrafted j = put_cases (λ s. s.stamp ≡ (t j).stamp) t k (with_hand (t k) hand) j (λ e. rw e) (λ _. refl)
+    stamp_in_redrafted j = grind (arith, nat_tests)
 
     -- what stands before a hold is as it was, unless k is older and its draft of the record is another
     pub before_unchanged_by_redraft : (i r : ℕ)
@@ -206,7 +206,7 @@ module _ {V C : Type 0} (apply : V → C → V) where
 
     -- the stamps are as they were
     stamp_in_granted : (j : ℕ) → (granted_table j).stamp ≡ (t j).stamp
-    stamp_in_granted j = put_cases (λ s. s.stamp ≡ (t j).stamp) t k granted_one j (λ e. rw e) (λ _. refl)
+    stamp_in_granted j = grind (arith, nat_tests)
 
     -- the holds on other records are as they were
     elsewhere : (r : ℕ) → (r ≡ q → ⊥) → hold_on r (new_hold ∷ (t k).hand) ≡ hold_on r (t k).hand
@@ -349,7 +349,7 @@ module _ {V C : Type 0} (apply : V → C → V) where
 
             rest : (j : ℕ) → (j ≡ k → ⊥)
                 → (older_draft left_table i r j ≡ older_draft t i r j) × ((left_table j).stamp ≡ (t j).stamp)
-            rest j nk = let there : left_table j ≡ t j = put_other t k idle_station j nk in (rw (there, here), rw there)
+            rest j nk = grind (arith, nat_tests, here)
 
     -- another attempt replays as before
     pub replays_if_other_commits : (i : ℕ) (l : List (Entry V C)) → (i ≡ k → ⊥) → Replays apply t show i l
