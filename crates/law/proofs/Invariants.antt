@@ -1,5 +1,5 @@
 -- The invariants of the lock table, and the changes that keep them. They hold at the start and after every step inside a call.
-use Rattle.std.proofs.Common.{◌≡◌, ℕ, suc, ◌+◌, ◌<◌, ◌≤◌, true, false, cond, eqb, ◌⊎◌, List, [], ◌∷◌, length, Some, None, sym, refl, ◌∙◌, inl, inr, arith}
+use Rattle.std.proofs.Common.{◌≡◌, ℕ, suc, ◌+◌, ◌<◌, ◌≤◌, true, false, cond, eqb, ◌⊎◌, List, [], ◌∷◌, length, Some, None, refl, inl, inr, arith}
 use Rattle.std.proofs.lemmas.Bool.{cases_eq, cond_both}
 use Rattle.std.proofs.lemmas.Bool.Decides.{nat_tests}
 use Rattle.rules.specs.declared.Mode.{Mode}
@@ -118,16 +118,11 @@ pub adding_nothing_keeps : {V : Type 0} {t : Stations V} (t' : Stations V) {next
     → ((i : ℕ) → AddsNothing (t i) (t' i)) → Invariant t' next records
 adding_nothing_keeps t' v s = grind (arith, works_not_idle, waiting_works, holder_at_work)
 
--- one station changed so that nothing is added
-pub put_adds_nothing : {V : Type 0} {t : Stations V} {next records : ℕ} → Invariant t next records → (k : ℕ) (x : Station V)
-    → AddsNothing (t k) x → (i : ℕ) → AddsNothing (t i) (put t k x i)
-put_adds_nothing {V} {t} v k x s i = put_cases (λ y. AddsNothing (t i) y) t k x i (λ e. rw e s)
-    (λ _. unchanged_adds_nothing (t i) (v.empty_handed i))
-
 -- so do the stations with one such put
 pub put_keeps : {V : Type 0} {t : Stations V} {next records : ℕ} → Invariant t next records → (k : ℕ) (x : Station V)
     → AddsNothing (t k) x → Invariant (put t k x) next records
-put_keeps {t = t} v k x s = adding_nothing_keeps (put t k x) v (put_adds_nothing v k x s)
+put_keeps {t = t} v k x s = adding_nothing_keeps (put t k x) v
+    (λ i. put_cases (AddsNothing (t i)) t k x i (λ e. rw e s) (λ _. unchanged_adds_nothing (t i) (v.empty_handed i)))
 
 -- so do the stations with one put idle
 pub idle_keeps : {V : Type 0} {t : Stations V} {next records : ℕ} → Invariant t next records → (k : ℕ)
@@ -149,20 +144,12 @@ module _ {V : Type 0} (f : Hold V → Hold V) (keeps : (h : Hold V) → (f h).re
       record {
         same_stamp = λ k. (k, refl);
         same_wait = λ r m p. p;
-        same_hold = λ r g p. go r g p (cases_eq r q);
+        same_hold = λ r g p. grind (arith, cases_eq r q, hold_on_adjusted f keeps q s.hand h e, hold_on_others f keeps q r s.hand);
         none_held = λ r p. none_adjusted f keeps q r s.hand p;
         empties = λ n. cc;
         stays_distinct = distinct_adjusted q s.hand;
         no_more_places = rw (length_adjusted f keeps q s.hand) (omega arith);
       }
-    where
-      go : (r : ℕ) (g : Hold V) → hold_on r (adjust q f s.hand) ≡ Some g → (r ≡ q) ⊎ (r ≡ q → ⊥)
-          → (h : Hold V) × (hold_on r s.hand ≡ Some h) × (hold_mode g ≡ hold_mode h) × (owned g ≡ true → owned h ≡ true)
-      go r g p (inl eq) =
-          let fq : hold_on r (adjust q f s.hand) ≡ Some (f h) = rw eq (hold_on_adjusted f keeps q s.hand h e) in
-          let same : f h ≡ g = cc in
-          (h, rw eq e, rw (← same) mode, λ x. own (rw (← same) at x))
-      go r g p (inr nq) = (g, sym (hold_on_others f keeps q r s.hand nq) ∙ p, refl, λ x. x)
 
 -- Begin.
 

@@ -4,7 +4,7 @@ use Rattle.std.proofs.Common.{◌≡◌, ℕ, ◌<◌, ◌≤◌, Bool, true, fa
 use Rattle.std.proofs.lemmas.Bool.{eq-eqb, ne_eqb, cases_eq, lt-ltb}
 use Rattle.std.proofs.lemmas.Bool.Decides.{nat_tests}
 use Rattle.rules.specs.declared.Mode.{Mode}
-use Rattle.rules.specs.declared.Mode.TheVariants.{Shared, Exclusive}
+use Rattle.rules.specs.declared.Mode.TheVariants.{Exclusive}
 use Rattle.rules.specs.declared.Stage.TheVariants.{Owned}
 use Rattle.rules.specs.Tables.{Hold, waiting, Station, Stations, hold_mode, owned, is_idle, hold_on, draft_in, idle_station, with_hand, put}
 use Rattle.rules.specs.Operations.{youngest, older_draft, before, or_else, seen, bonds, wound, draft_for, granted_station, adjust, redrafted}
@@ -243,7 +243,7 @@ module _ {V C : Type 0} (apply : V → C → V) where
 
     -- the attempt itself replays as before
     pub replays_own_grant : (l : List (Entry V C)) → Replays apply t show k l → Replays apply granted_table show k l
-    replays_own_grant l s vs p = (old.0, λ r. old.1 r ∙ go r (cases_eq r q))
+    replays_own_grant l s vs p = (old.0, λ r. old.1 r ∙ go r)
       where
         here : (granted_table k).hand ≡ new_hold ∷ (t k).hand
         here = rw (put_same t k granted_one)
@@ -259,14 +259,11 @@ module _ {V C : Type 0} (apply : V → C → V) where
         old : Agrees apply l vs × ((r : ℕ) → left apply l vs r ≡ seen (t k).hand vs r)
         old = s vs (λ r g f. let x = held r g f (cases_eq r q) in p r x.0 x.1 ∙ same r)
 
-        starts : (r : ℕ) → r ≡ q → (md : Mode) → vs r ≡ or_else (draft_for md (before t show k q)) (vs r)
-        starts r eq Shared = refl
-        starts r eq Exclusive = ap vs eq ∙ p q new_hold (rw here (there q refl)) ∙ same q
+        at_q : vs q ≡ before t show k q
+        at_q = p q new_hold (rw here (there q refl)) ∙ same q
 
-        go : (r : ℕ) → (r ≡ q) ⊎ (r ≡ q → ⊥) → seen (t k).hand vs r ≡ seen (granted_table k).hand vs r
-        go r (inl eq) = let none : draft_in (hold_on r (t k).hand) ≡ None = rw eq no_draft_yet in rw (here, none, there r eq)
-            (starts r eq m)
-        go r (inr nq) = rw (here, elsewhere r nq)
+        go : (r : ℕ) → seen (t k).hand vs r ≡ seen (granted_table k).hand vs r
+        go r = grind (arith, cases_eq r q, here, elsewhere r, there r, no_draft_yet, at_q)
 
   -- station k, which has no bonds, commits
   module _ (t : Stations V) (next records : ℕ) (v : Invariant t next records) (show : ℕ → V) (k : ℕ) (free : bonds t k ≡ 0) where

@@ -1,12 +1,10 @@
 -- The law of runs, proved of the rules.
-use Rattle.std.proofs.Common.{◌≡◌, ℕ, suc, ◌<◌, List, [], ◌∷◌, Some, None, Option, sym, refl, ap, ◌∙◌, subst, inl, inr, arith}
+use Rattle.std.proofs.Common.{◌≡◌, ℕ, suc, ◌<◌, List, [], ◌∷◌, None, sym, refl, ap, ◌∙◌, inl, inr, arith}
 use Rattle.std.proofs.lemmas.Bool.{le-leb, lt-leb, cases_lt}
 use Rattle.std.proofs.lemmas.Bool.Decides.{nat_tests}
 use Rattle.std.proofs.lemmas.List.Elements.{All-nil}
-use Rattle.rules.specs.declared.Refusal.{Refusal}
 use Rattle.rules.specs.declared.Call.{Call}
 use Rattle.rules.specs.declared.Call.TheVariants.{Begin, Take, Look, Change, Retire, Commit, GiveUp, Again, Standing, Plotted, Count}
-use Rattle.rules.specs.declared.Answer.{Answer}
 use Rattle.rules.specs.declared.Answer.TheVariants.{Refused, Value, Committed}
 use Rattle.rules.specs.Tables.{Table, idle_station}
 use Rattle.rules.specs.Calls.{refusals, first_refusal, after, answer, opened}
@@ -15,7 +13,7 @@ use Rattle.law.specs.Alone.{all_left}
 use Rattle.law.specs.Law.{Opening, Serial, Ordered, Live}
 use Rattle.law.specs.Runs.{table, engine, Lawful, AlwaysOrderly}
 use Rattle.law.proofs.Invariants.{Invariant}
-use Rattle.rules.proofs.Admission.{begin_admitted, take_admitted, look_admitted, change_admitted, retire_admitted, commit_admitted, give_up_admitted, again_admitted, step_refused, step_accepted, answer_refused, answer_accepted}
+use Rattle.rules.proofs.Admission.{begin_admitted, take_admitted, look_admitted, change_admitted, retire_admitted, commit_admitted, give_up_admitted, again_admitted, step_cases, answer_refused, answer_accepted}
 use Rattle.law.proofs.Consistency.{fresh_matches, Tells, Consistent, heard_matches}
 use Rattle.law.proofs.PlainCalls.{refused_silent, Following, silent_consistent, begin_consistent, again_consistent, look_consistent, change_consistent}
 use Rattle.law.proofs.FreeingCalls.{retire_consistent, commit_consistent, give_up_consistent, take_consistent}
@@ -73,19 +71,10 @@ module _ {V C : Type 0} (apply : V → C → V) (named : List (Call C) → ℕ) 
   -- any call: whose attempts it ends
   next_ends : (h : List (Call C)) → Invariant (table_after h).stations (table_after h).next_stamp (table_after h).records
       → (c : Call C) → Ends (table_after h).stations (table_after (c ∷ h)).stations c (e h c)
-  next_ends h v c = go (first_refusal (refusals (named (c ∷ h)) c (table_after h))) refl
-    where
-      F : Answer V × Table V → Type 0
-      F p = Ends (table_after h).stations p.1.stations c p.0
-
-      go : (x : Option Refusal) → first_refusal (refusals (named (c ∷ h)) c (table_after h)) ≡ x
-          → Ends (table_after h).stations (table_after (c ∷ h)).stations c (e h c)
-      go (Some why) q =
-          subst F (sym (step_refused apply (named (c ∷ h)) c (table_after h) why q))
-          (unchanged_ends_none (table_after h).stations c (Refused why) (ap is_commit (refused_silent c why))
-          (ap is_over (refused_silent c why)) (ap is_start (refused_silent c why)))
-      go None q = subst F (sym (step_accepted apply (named (c ∷ h)) c (table_after h) q))
-          (accepted_ends (named (c ∷ h)) (table_after h) v c q)
+  next_ends h v c = step_cases apply (named (c ∷ h)) c (table_after h) (λ p. Ends (table_after h).stations p.1.stations c p.0)
+      (λ why _. unchanged_ends_none (table_after h).stations c (Refused why) (ap is_commit (refused_silent c why))
+      (ap is_over (refused_silent c why)) (ap is_start (refused_silent c why)))
+      (accepted_ends (named (c ∷ h)) (table_after h) v c)
 
   -- From opening values that are the show's.
   module _ (opening : ℕ → V) (opens : (r : ℕ) → r < records → show r ≡ opening r) where
@@ -130,27 +119,15 @@ module _ {V C : Type 0} (apply : V → C → V) (named : List (Call C) → ℕ) 
     -- table and observation belong together after every list of calls
     consistent : (h : List (Call C)) → Consistent apply opening (table_after h) (observed e h)
     consistent [] = new_consistent
-    consistent (c ∷ h) = next (consistent h)
-      where
-        next : Consistent apply opening (table_after h) (observed e h)
-            → Consistent apply opening (table_after (c ∷ h)) (observed e (c ∷ h))
-        next g = go (first_refusal (refusals (named (c ∷ h)) c (table_after h))) refl
-          where
-            -- the answer of the call, and what is to be shown of the table that it leaves
-            F : Answer V × Table V → Type 0
-            F p = e h c ≡ p.0 → Tells (e (c ∷ h)) p.1 → Consistent apply opening p.1
-                (observe (e h) c (e (c ∷ h)) (observed e h))
-
-            go : (x : Option Refusal) → first_refusal (refusals (named (c ∷ h)) c (table_after h)) ≡ x
-                → Consistent apply opening (table_after (c ∷ h)) (observe (e h) c (e (c ∷ h)) (observed e h))
-            go (Some why) q =
-                subst F (sym (step_refused apply (named (c ∷ h)) c (table_after h) why q))
-                (λ a tells'. silent_consistent apply opening (table_after h) (observed e h) g (e h) (tells h) c (Refused why)
-                (e (c ∷ h)) tells' a (refused_silent c why)) refl (tells (c ∷ h))
-            go None q =
-                subst F (sym (step_accepted apply (named (c ∷ h)) c (table_after h) q))
-                (λ a tells'. accepted_consistent (named (c ∷ h)) (table_after h) (observed e h) g (e h) (tells h) c q (e (c ∷ h))
-                tells' a) refl (tells (c ∷ h))
+    consistent (c ∷ h) =
+        let g = consistent h in
+        step_cases apply (named (c ∷ h)) c (table_after h)
+        (λ p. e h c ≡ p.0 → Tells (e (c ∷ h)) p.1 → Consistent apply opening p.1
+        (observe (e h) c (e (c ∷ h)) (observed e h)))
+        (λ why _ a tells'. silent_consistent apply opening (table_after h) (observed e h) g (e h) (tells h) c (Refused why)
+        (e (c ∷ h)) tells' a (refused_silent c why))
+        (λ q a tells'. accepted_consistent (named (c ∷ h)) (table_after h) (observed e h) g (e h) (tells h) c q (e (c ∷ h))
+        tells' a) refl (tells (c ∷ h))
 
   -- the opening values are those of the show
   abbrev show_consistent : (h : List (Call C)) → Consistent apply show (table_after h) (observed e h)
@@ -164,17 +141,11 @@ module _ {V C : Type 0} (apply : V → C → V) (named : List (Call C) → ℕ) 
   -- the number of records stays
   records_stay : (h : List (Call C)) → (table_after h).records ≡ records
   records_stay [] = refl
-  records_stay (c ∷ h) = go (records_stay h) (first_refusal (refusals (named (c ∷ h)) c (table_after h))) refl
+  records_stay (c ∷ h) = step_cases apply (named (c ∷ h)) c (table_after h) (λ p. p.1.records ≡ records) (λ _ _. records_stay h)
+      (λ _. after_same c (table_after h) ∙ records_stay h)
     where
       after_same : (c : Call C) (t : Table V) → (after apply c t).records ≡ t.records
       after_same c t = grind arith
-
-      go : (table_after h).records ≡ records → (x : Option Refusal)
-          → first_refusal (refusals (named (c ∷ h)) c (table_after h)) ≡ x → (table_after (c ∷ h)).records ≡ records
-      go ih (Some why) q = ap (λ (p : Answer V × Table V). p.1.records)
-          (step_refused apply (named (c ∷ h)) c (table_after h) why q) ∙ ih
-      go ih None q = ap (λ (p : Answer V × Table V). p.1.records) (step_accepted apply (named (c ∷ h)) c (table_after h) q) ∙
-          (after_same c (table_after h) ∙ ih)
 
   -- a record of which plotted tells a value is one of the show's
   value_told_inside : (r : ℕ) (v : V) → e [] (Plotted r) ≡ Value v → r < records
@@ -189,12 +160,8 @@ module _ {V C : Type 0} (apply : V → C → V) (named : List (Call C) → ℕ) 
 
   -- the commit number that a commit would get
   commit_number : (h : List (Call C)) (i n : ℕ) → e h (Commit i) ≡ Committed n → n ≡ suc (table_after h).commits
-  commit_number h i n q = go (first_refusal (refusals {C = C} (named (Commit i ∷ h)) (Commit i) (table_after h))) refl
-    where
-      go : (x : Option Refusal) → first_refusal (refusals {C = C} (named (Commit i ∷ h)) (Commit i) (table_after h)) ≡ x
-          → n ≡ suc (table_after h).commits
-      go None z = cc (answer_accepted apply (named (Commit i ∷ h)) (Commit i) (table_after h) z)
-      go (Some why) z = cc (answer_refused apply (named (Commit i ∷ h)) (Commit i) (table_after h) why z)
+  commit_number h i n q = step_cases apply (named (Commit i ∷ h)) (Commit i) (table_after h)
+      (λ p. p.0 ≡ Committed n → n ≡ suc (table_after h).commits) (λ _ _ z. cc) (λ _ z. cc) q
 
   -- the serial part
   serial : (h : List (Call C)) → Serial apply e h

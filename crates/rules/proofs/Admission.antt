@@ -1,5 +1,5 @@
 -- What a call that is not refused may rely on.
-use Rattle.std.proofs.Common.{◌≡◌, ℕ, ◌<◌, Bool, true, false, List, [], ◌∷◌, length, Some, None, ap, arith}
+use Rattle.std.proofs.Common.{◌≡◌, ℕ, ◌<◌, Bool, true, false, List, [], ◌∷◌, length, Some, None, Option, arith, refl}
 use Rattle.std.specs.List.{AllByRecursion}
 use Rattle.std.proofs.lemmas.Bool.Decides.{nat_tests}
 use Rattle.rules.specs.declared.Mode.{Mode}
@@ -10,7 +10,7 @@ use Rattle.rules.specs.declared.Answer.{Answer}
 use Rattle.rules.specs.declared.Answer.TheVariants.{Refused}
 use Rattle.rules.specs.Tables.{Hold, idle, running, wounded, Table, owned, is_idle, hold_on}
 use Rattle.rules.specs.Operations.{bonds}
-use Rattle.rules.specs.Calls.{refusals, first_refusal, after, answer, step}
+use Rattle.rules.specs.Calls.{refusals, first_refusal, after, answer, step, outcome}
 
 -- if no refusal is given, each test fails
 pub all_tests_fail : (l : List (Bool × Refusal)) → first_refusal l ≡ None → AllByRecursion (λ p. p.0 ≡ false) l
@@ -58,20 +58,23 @@ module _ {V : Type 0} (C : Type 0) (named : ℕ) (t : Table V) (k : ℕ) where
 
 -- What step does with a refusal, and without one.
 module _ {V C : Type 0} (apply : V → C → V) (named : ℕ) (c : Call C) (t : Table V) where
-  -- a refused call answers its refusal and changes nothing
-  pub step_refused : (why : Refusal) → first_refusal (refusals named c t) ≡ Some why → step apply named c t ≡ (Refused why, t)
+  -- a refused call answers its refusal and changes nothing; another is answered and leaves its table
+  pub step_cases : (P : Answer V × Table V → Type 0)
+      → ((why : Refusal) → first_refusal (refusals named c t) ≡ Some why → P (Refused why, t))
+      → (first_refusal (refusals named c t) ≡ None → P (answer apply c t, after apply c t)) → P (step apply named c t)
   unfolding step
-  step_refused why e = rw e
-
-  -- a call that is not refused
-  pub step_accepted : first_refusal (refusals named c t) ≡ None → step apply named c t ≡ (answer apply c t, after apply c t)
-  unfolding step
-  step_accepted e = rw e
+  step_cases P refused accepted = go (first_refusal (refusals named c t)) refl
+    where
+      go : (o : Option Refusal) → first_refusal (refusals named c t) ≡ o → P (outcome apply o c t)
+      go (Some why) e = refused why e
+      go None e = accepted e
 
   -- the answer of a refused call
   pub answer_refused : (why : Refusal) → first_refusal (refusals named c t) ≡ Some why → (step apply named c t).0 ≡ Refused why
-  answer_refused why e = ap (λ (p : Answer V × Table V). p.0) (step_refused why e)
+  unfolding step
+  answer_refused why e = rw e
 
   -- the answer of a call that is not refused
   pub answer_accepted : first_refusal (refusals named c t) ≡ None → (step apply named c t).0 ≡ answer apply c t
-  answer_accepted e = ap (λ (p : Answer V × Table V). p.0) (step_accepted e)
+  unfolding step
+  answer_accepted e = rw e
