@@ -1,5 +1,5 @@
 -- Which attempts a call starts, ends and lets go on.
-use Rattle.std.proofs.Common.{◌≡◌, ℕ, ◌<◌, Bool, true, false, cond, eqb, ◌⊎◌, [], length, Some, None, sym, refl, ap, ◌∙◌, inl, inr, arith}
+use Rattle.std.proofs.Common.{◌≡◌, ℕ, ◌<◌, Bool, true, false, eqb, ◌⊎◌, [], length, Some, None, sym, refl, ap, ◌∙◌, inl, inr, arith}
 use Rattle.std.proofs.lemmas.Bool.{eqb-true, eq-eqb, cases_eq, cases_Bool}
 use Rattle.std.proofs.lemmas.Bool.Decides.{nat_tests}
 use Rattle.rules.specs.declared.Mode.{Mode}
@@ -14,7 +14,7 @@ use Rattle.rules.specs.Calls.{after, answer}
 use Rattle.rules.proofs.Searches.{eqb_refl}
 use Rattle.rules.proofs.Stations.{put_cases, put_same, put_other}
 use Rattle.rules.proofs.Widening.{widened_has_first}
-use Rattle.law.specs.Observer.{stamp, caller, names, Event, nothing, starts, commits, ends, waits, gets, told, event, is_commit, is_over, is_start}
+use Rattle.law.specs.Observer.{stamp, caller, names, Event, nothing, starts, waits, gets, told, event, is_commit, is_over, is_start}
 use Rattle.law.proofs.Hands.{aspect_adjusted}
 use Rattle.law.proofs.Invariants.{Invariant, works_not_idle, put_keeps, adjusted_adds_nothing, idle_keeps}
 use Rattle.law.proofs.Wounding.{closed_under_younger_holders, members_at_work, at_work_spared, spared_same, wounded_rests, wounding_keeps, yielding_at_work, take_keeps}
@@ -130,13 +130,10 @@ module _ {V C : Type 0} (apply : V → C → V) (t : Table V) (v : Invariant t.s
   start_ends c a k x named starts_it rest w =
       none_end t.stations (put t.stations k x) c a (put_at_work t.stations k x w) (rw starts_it)
       (λ i e. grind arith)
-      from_rest on
+      (λ i e. grind (arith, cases_eq i k, untold_of i)) on
     where
       untold_of : (i : ℕ) → (i ≡ k → ⊥) → event c a i ≡ nothing
       untold_of i nk = rw named (untold k i (told c a) nk)
-
-      from_rest : (i : ℕ) → is_start (event c a i) ≡ true → works (t.stations i).phase ≡ false
-      from_rest i e = grind (arith, cases_eq i k, untold_of i)
 
       on : (i : ℕ) → works (put t.stations k x i).phase ≡ true → is_start (event c a i) ≡ false
           → GoesOn (t.stations i) (put t.stations k x i)
@@ -216,11 +213,10 @@ module _ {V C : Type 0} (apply : V → C → V) (t : Table V) (v : Invariant t.s
         out = λ _. false;
         closed = λ i j r h k e _ _ _ _. cc;
         ended = λ i e. cc;
-        only = λ j w n. inl
-            (commits_it j w (sym (settling_works mid t.next_stamp t.records show' v' j) ∙ n));
+        only = λ j w n. inl (grind (arith, settling_works mid t.next_stamp t.records show' v' j));
         younger = λ i e. cc;
-        free = by;
-        over = λ i e. settling_works mid t.next_stamp t.records show' v' i ∙ over_at i e;
+        free = λ i e. grind (arith, nat_tests);
+        over = λ i e. grind (arith, settling_works mid t.next_stamp t.records show' v' i);
         starts_from_rest = λ i e. grind arith;
         goes_on = λ i w _. settled_goes_on t.stations mid t.next_stamp t.records show' v' (idle_goes_on t.stations k) i w;
       }
@@ -233,17 +229,6 @@ module _ {V C : Type 0} (apply : V → C → V) (t : Table V) (v : Invariant t.s
 
       v' : Invariant mid t.next_stamp t.records
       v' = idle_keeps v k
-
-      commits_it : (j : ℕ) → works (t.stations j).phase ≡ true → works (mid j).phase ≡ false
-          → is_commit {V = V} {C = C} (cond (eqb j k) commits nothing) ≡ true
-      commits_it j w n = grind arith
-
-      by : (i : ℕ) → is_commit {V = V} {C = C} (cond (eqb i k) commits nothing) ≡ true
-          → (works (t.stations i).phase ≡ true) × (bonds t.stations i ≡ 0)
-      by i e = grind (arith, nat_tests)
-
-      over_at : (i : ℕ) → is_over {V = V} {C = C} (cond (eqb i k) commits nothing) ≡ true → works (mid i).phase ≡ false
-      over_at i e = grind arith
 
   -- A widened set is wounded, station k is put as x, and all is settled.
   module _ (c : Call C) (a : Answer V) (no_commit : is_commit (told c a) ≡ false) (no_start : is_start (told c a) ≡ false)
@@ -269,13 +254,11 @@ module _ {V C : Type 0} (apply : V → C → V) (t : Table V) (v : Invariant t.s
         record {
           out = members;
           closed = closed_under_younger_holders v first;
-          ended = λ i e. settling_works mid t.next_stamp t.records t.show v' i ∙ rests i e;
-          only = λ j w n. inr
-              (only_members j w (sym (settling_works mid t.next_stamp t.records t.show v' j) ∙ n));
+          ended = λ i e. grind (arith, nat_tests, ends_k i, wounded_rests members t.stations i, settles i);
+          only = λ j w n. inr (grind (arith, nat_tests, only_k, spared_same members t.stations j, settles j));
           younger = young;
           free = λ i e. grind arith;
-          over = λ i e. let p = over_k i e in settling_works mid t.next_stamp t.records t.show v' i ∙ rw
-              (p.0, put_same after_wounding k x) p.1;
+          over = λ i e. grind (arith, nat_tests, over_k i e, settles i);
           starts_from_rest = λ i e. grind arith;
           goes_on = λ i w _. settled_goes_on t.stations mid t.next_stamp t.records t.show v'
               (λ i w. on i w (cases_eq i k)) i w;
@@ -284,11 +267,8 @@ module _ {V C : Type 0} (apply : V → C → V) (t : Table V) (v : Invariant t.s
         after_wounding : Stations V
         after_wounding = wound (widen t.stations first) t.stations
 
-        rests : (i : ℕ) → members i ≡ true → works (mid i).phase ≡ false
-        rests i e = grind (arith, nat_tests, ends_k i, wounded_rests members t.stations i)
-
-        only_members : (j : ℕ) → works (t.stations j).phase ≡ true → works (mid j).phase ≡ false → members j ≡ true
-        only_members j w n = grind (arith, nat_tests, only_k, spared_same members t.stations j)
+        settles : (i : ℕ) → works (settle t.show mid i).phase ≡ works (mid i).phase
+        settles = settling_works mid t.next_stamp t.records t.show v'
 
         on : (i : ℕ) → works (mid i).phase ≡ true → (i ≡ k) ⊎ (i ≡ k → ⊥) → GoesOn (t.stations i) (mid i)
         on i w (inl ik) = rw (ik, put_same after_wounding k x) (on_k (rw (ik, put_same after_wounding k x) at w))
@@ -330,13 +310,10 @@ module _ {V C : Type 0} (apply : V → C → V) (t : Table V) (v : Invariant t.s
       wounding_ends (GiveUp k) (Number n) refl refl (λ j. eqb j k) base k idle_station
       (idle_keeps (wounding_keeps v (widen t.stations (λ j. eqb j k)) (members_at_work v (λ j. eqb j k) base)) k)
       (λ _ _ _. refl) (λ _ _. widened_has_first t.stations (λ j. eqb j k) k (eqb_refl k)) (λ i e. young i e (cases_eq i k))
-      (λ e. cc) (λ i e. (caller_over i e, refl))
+      (λ e. cc) (λ i e. (grind (arith, nat_tests), refl))
     where
       base : (i : ℕ) → eqb i k ≡ true → works (t.stations i).phase ≡ true
       base i q = rw (eqb-true i k q) was
-
-      caller_over : (i : ℕ) → is_over {V = V} {C = C} (cond (eqb i k) ends nothing) ≡ true → i ≡ k
-      caller_over i e = grind (arith, nat_tests)
 
       young : (i : ℕ) → widen t.stations (λ j. eqb j k) i ≡ true → (i ≡ k) ⊎ (i ≡ k → ⊥)
           → (eqb i k ≡ true) ⊎ ((j : ℕ) × (works (t.stations j).phase ≡ true) × ((t.stations j).stamp < (t.stations i).stamp))
@@ -356,15 +333,8 @@ module _ {V C : Type 0} (apply : V → C → V) (t : Table V) (v : Invariant t.s
   give_up_wounded_ends : (k : ℕ) → (t.stations k).phase ≡ wounded → (n : ℕ)
       → Ends {C = C} t.stations (put t.stations k idle_station) (GiveUp k) (Number n)
   give_up_wounded_ends k was n =
-      none_end t.stations (put t.stations k idle_station) (GiveUp k) (Number n) still refl over_at
-      (λ i e. grind arith) (λ i w _. idle_goes_on t.stations k i w)
-    where
-      over_at : (i : ℕ) → is_over {V = V} {C = C} (cond (eqb i k) ends nothing) ≡ true
-          → works (put t.stations k idle_station i).phase ≡ false
-      over_at i e = grind arith
-
-      still : (j : ℕ) → works (t.stations j).phase ≡ true → works (put t.stations k idle_station j).phase ≡ true
-      still j w = grind (arith, nat_tests)
+      none_end t.stations (put t.stations k idle_station) (GiveUp k) (Number n) (λ j w. grind (arith, nat_tests)) refl
+      (λ i e. grind arith) (λ i e. grind arith) (λ i w _. idle_goes_on t.stations k i w)
 
   -- give up ends its own attempt and those of the followers
   pub give_up_ends : (k : ℕ) → is_idle (t.stations k).phase ≡ false → EndsOf (GiveUp k)

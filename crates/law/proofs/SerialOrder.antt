@@ -48,16 +48,13 @@ module _ {V C : Type 0} (apply : V → C → V) where
   pub replays_if_empty_put : (t : Stations V) (show : ℕ → V) (k : ℕ) (x : Station V) → (t k).hand ≡ [] → x.hand ≡ [] → (i : ℕ)
       → (i ≡ k → ⊥) → (l : List (Entry V C)) → Replays apply t show i l → Replays apply (put t k x) show i l
   replays_if_empty_put t show k x none none' i ne l =
-      replays_if_before_kept t t' show show i l (λ r h e. (h, rw here e, before_unchanged t t' show i r (each r))) (λ r. rw here)
+      replays_if_before_kept t t' show show i l (λ r h e. (h, rw here e, before_unchanged t t' show i r (λ j. grind (arith, nat_tests, none, none')))) (λ r. rw here)
     where
       t' : Stations V
       t' = put t k x
 
       here : t' i ≡ t i
       here = put_other t k x i ne
-
-      each : (r j : ℕ) → CountsAlike t t' i r j
-      each r j = grind (arith, nat_tests, none, none')
 
   -- an attempt replays as before, if a set is wounded in which every younger holder of what a member holds exclusively is a member
   pub replays_if_closed_set_wounded : (t : Stations V) (show : ℕ → V) (w : ℕ → Bool) (i : ℕ) (l : List (Entry V C)) → w i ≡ false
@@ -98,10 +95,8 @@ module _ {V C : Type 0} (apply : V → C → V) where
     pub before_unchanged_by_redraft : (i r : ℕ)
         → (draft_in (hold_on r hand) ≡ draft_in (hold_on r (t k).hand)) ⊎ ((t i).stamp ≤ (t k).stamp)
         → before redrafted_table show i r ≡ before t show i r
-    before_unchanged_by_redraft i r same = before_unchanged t redrafted_table show i r (λ j. go j)
-      where
-        go : (j : ℕ) → CountsAlike t redrafted_table i r j
-        go j = grind (arith, nat_tests, same, stamp_in_redrafted i, stamp_in_redrafted j)
+    before_unchanged_by_redraft i r same = before_unchanged t redrafted_table show i r
+        (λ j. grind (arith, nat_tests, same, stamp_in_redrafted i, stamp_in_redrafted j))
 
     -- another attempt replays as before: who holds a record beside its owner is older
     pub replays_if_other_redrafts : (i : ℕ) (l : List (Entry V C)) → (i ≡ k → ⊥) → Replays apply t show i l
@@ -219,10 +214,8 @@ module _ {V C : Type 0} (apply : V → C → V) where
     -- what stands before is as it was, but for a younger holder of what was granted exclusively
     before_unchanged_by_grant : (i r : ℕ) → (r ≡ q → m ≡ Exclusive → (t i).stamp ≤ (t k).stamp)
         → before granted_table show i r ≡ before t show i r
-    before_unchanged_by_grant i r last = before_unchanged t granted_table show i r go
-      where
-        go : (j : ℕ) → CountsAlike t granted_table i r j
-        go j = grind (arith, nat_tests, cases_eq r q, no_draft_yet, elsewhere r, there r, last, stamp_in_granted i, stamp_in_granted j)
+    before_unchanged_by_grant i r last = before_unchanged t granted_table show i r (λ j. grind
+        (arith, nat_tests, cases_eq r q, no_draft_yet, elsewhere r, there r, last, stamp_in_granted i, stamp_in_granted j))
 
     -- another attempt replays as before: who holds what is granted exclusively is older
     pub replays_if_other_granted : (i : ℕ) (l : List (Entry V C)) → (i ≡ k → ⊥) → Replays apply t show i l
@@ -309,10 +302,7 @@ module _ {V C : Type 0} (apply : V → C → V) where
         plot_at u e = ap (λ (u : V). (youngest (λ j. (left_table j).stamp) (older_draft left_table i r) u 16).1) e
 
         go : (o : Option V) → draft_in (hold_on r (t k).hand) ≡ o → before left_table plotted_values i r ≡ before t show i r
-        go None e = plot_at (show r) (rw e) ∙ before_unchanged t left_table show i r by
-          where
-            by : (j : ℕ) → CountsAlike t left_table i r j
-            by j = grind (arith, nat_tests, here)
+        go None e = plot_at (show r) (rw e) ∙ before_unchanged t left_table show i r (λ j. grind (arith, nat_tests, here))
         go (Some d) e =
             plot_at d (rw e) ∙ (youngest_without_oldest (λ j. (t j).stamp) (λ j. (left_table j).stamp) (older_draft t i r)
             (older_draft left_table i r) (show r) 16 k d

@@ -1,17 +1,16 @@
 -- Wounding a widened set: who is in it, and what wounding keeps.
-use Rattle.std.proofs.Common.{◌≡◌, ℕ, ◌<◌, Bool, true, false, List, [], ◌∷◌, length, is_some, Some, None, sym, refl, ap, ◌∙◌, arith}
-use Rattle.std.proofs.lemmas.Bool.{and_parts, true_from_ne_false, cond_both}
+use Rattle.std.proofs.Common.{◌≡◌, ℕ, ◌<◌, Bool, true, false, List, [], ◌∷◌, length, is_some, Some, None, sym, ap, ◌∙◌, arith}
+use Rattle.std.proofs.lemmas.Bool.{true_from_ne_false}
 use Rattle.std.proofs.lemmas.Bool.Decides.{nat_tests}
 use Rattle.rules.specs.declared.Mode.{Mode}
 use Rattle.rules.specs.declared.Mode.TheVariants.{Exclusive}
-use Rattle.rules.specs.Tables.{Hold, running, Stations, conflict, hold_mode, works, hold_on, conflicts, older, wounded_station}
+use Rattle.rules.specs.Tables.{Hold, running, Stations, conflict, hold_mode, works, hold_on}
 use Rattle.rules.specs.Operations.{widen, wound, must_yield, wounded_by_take, add_wait}
 use Rattle.rules.specs.Widening.{holds, holds_exclusively}
 use Rattle.rules.proofs.Widening.{found_holds, widened_has_first, widened_closed, widened_least}
 use Rattle.rules.proofs.Spared.{taker_spared}
 use Rattle.law.specs.Observer.{at_work}
-use Rattle.law.proofs.Hands.{conflict_parts}
-use Rattle.law.proofs.Invariants.{Invariant, works_not_idle, holder_works, holder_not_idle, holder_in_range, AddsNothing, unchanged_adds_nothing, emptied_adds_nothing, adding_nothing_keeps, wait_keeps}
+use Rattle.law.proofs.Invariants.{Invariant, works_not_idle, holder_works, holder_not_idle, holder_in_range, wait_keeps}
 
 -- an exclusive hold found on a record is an exclusive hold of it
 exclusive_found : {V : Type 0} (r : ℕ) (hs : List (Hold V)) (h : Hold V) → hold_on r hs ≡ Some h → hold_mode h ≡ Exclusive
@@ -60,19 +59,14 @@ module _ {V : Type 0} (members : ℕ → Bool) (t : Stations V) where
 pub wounding_keeps : {V : Type 0} {t : Stations V} {next records : ℕ} → Invariant t next records → (members : ℕ → Bool)
     → ((i : ℕ) → members i ≡ true → works (t i).phase ≡ true) → Invariant (wound members t) next records
 unfolding wound
-wounding_keeps {t = t} v members at_work = adding_nothing_keeps (wound members t) v
-    (λ i. cond_both (members i) (wounded_station (t i)) (t i) (AddsNothing (t i))
-    (λ e. emptied_adds_nothing (t i) (wounded_station (t i)) refl refl (λ _. (works_not_idle (t i).phase (at_work i e), refl)))
-    (λ _. unchanged_adds_nothing (t i) (v.empty_handed i)))
+wounding_keeps v members at_work = grind (arith, works_not_idle)
 
 -- Whom a take wounds.
 
 module _ {V : Type 0} {t : Stations V} {next records : ℕ} (v : Invariant t next records) (k r : ℕ) (m : Mode) where
   -- who must yield is at work
   pub yielding_at_work : (i : ℕ) → must_yield t k r m i ≡ true → works (t i).phase ≡ true
-  yielding_at_work i q =
-      let x = conflict_parts m (hold_on r (t i).hand) (and_parts (older t k i) (conflicts m (hold_on r (t i).hand)) q).1 in
-      holder_works v i r x.0 x.1
+  yielding_at_work i q = grind (arith, holder_works v i r)
 
   -- a running taker with room for the record: after the wounding, whoever still holds it and conflicts is older; the wait added then
   -- keeps the invariants
