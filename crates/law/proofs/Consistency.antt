@@ -38,6 +38,16 @@ module _ {V C : Type 0} (apply : V → C → V) where
     pub holds_observed : (r : ℕ) → a.held r ≡ held_mode (hold_on r (t i).hand)
     pub wait_observed : (r : ℕ) (m : Mode) → (t i).phase ≡ waiting r m → a.awaiting ≡ Some (r, m)
 
+  -- so is what was observed of it in call c with answer a, from the stations t to the stations s
+  abbrev pub MatchesAfter : Stations V → Stations V → (ℕ → V) → Observation V C → Call C → Answer V → ℕ → Type 0
+  MatchesAfter t s show o c a i = Matches s show i
+      (continued (suc o.started) (state_of (t i).phase) (state_of (s i).phase) (event c a i) (o.attempts i))
+
+  -- so is the attempt with what it waited for, if its station was granted that between the stations t and the stations s
+  abbrev pub MatchesMoved : Stations V → Stations V → (ℕ → V) → ℕ → Attempt V C → Type 0
+  MatchesMoved t s show i a = Matches s show i
+      (with_grant (cond (turned (state_of (t i).phase) (state_of (s i).phase)) a.awaiting None) a)
+
   -- a new attempt matches a station that holds nothing and does not wait
   pub fresh_matches : (t : Stations V) (show : ℕ → V) (i n : ℕ) → (t i).hand ≡ [] → is_waiting (t i).phase ≡ false
       → Matches t show i (fresh n)
@@ -70,14 +80,17 @@ module _ {V C : Type 0} (apply : V → C → V) where
   carried_on t t' show show' i a here replays k = grind (arith, replays)
 
   -- a station that is as it was, and of which nothing was told
-  pub untouched_matches : (t t' : Stations V) (show : ℕ → V) (i n : ℕ) (ev : Event V C) (a : Attempt V C) → t' i ≡ t i
-      → ev ≡ nothing → Matches t' show i a → Matches t' show i (continued n (state_of (t i).phase) (state_of (t' i).phase) ev a)
-  untouched_matches t t' show i n ev a e none k = grind (arith, turned_not)
+  pub untouched_matches : (t t' : Stations V) (show show' : ℕ → V) (o : Observation V C) (c : Call C) (a : Answer V) (i : ℕ)
+      → t' i ≡ t i → event c a i ≡ nothing → Replays apply t' show' i (o.attempts i).entries
+      → Matches t show i (o.attempts i) → MatchesAfter t t' show' o c a i
+  untouched_matches t t' show show' o c a i here none replays k =
+      let s : turned (state_of (t i).phase) (state_of (t' i).phase) ≡ false = rw here (turned_not (t i).phase) in
+      rw (none, s) (carried_on t t' show show' i (o.attempts i) here replays k)
 
   -- an attempt whose station stays or is granted what it waited for
   pub moved_matches : (t u : Stations V) (show : ℕ → V) (i : ℕ) (a : Attempt V C) → Matches t show i a
       → Replays apply u show i a.entries → StaysOrGranted (t i) (u i)
-      → Matches u show i (with_grant (cond (turned (state_of (t i).phase) (state_of (u i).phase)) a.awaiting None) a)
+      → MatchesMoved t u show i a
   moved_matches t u show i a k f (stays e) =
       let same : turned (state_of (t i).phase) (state_of (u i).phase) ≡ false = rw e (turned_not (t i).phase) in
       rw same (carried_on t u show show i a e f k)
@@ -90,8 +103,7 @@ module _ {V C : Type 0} (apply : V → C → V) where
     pub invariant : Invariant u next records
     pub blocked : Blocked u
     pub same_work : (i : ℕ) → works (u i).phase ≡ works (t i).phase
-    pub matches : (i : ℕ) → works (u i).phase ≡ true
-        → Matches u show i (with_grant (cond (turned (state_of (t i).phase) (state_of (u i).phase)) (attempts i).awaiting None) (attempts i))
+    pub matches : (i : ℕ) → works (u i).phase ≡ true → MatchesMoved t u show i (attempts i)
 
   -- settling makes it so
   pub settled : (t : Stations V) (next records : ℕ) → Invariant t next records → (show : ℕ → V) (attempts : ℕ → Attempt V C)
@@ -122,10 +134,10 @@ module _ {V C : Type 0} (apply : V → C → V) where
           (λ e. nothing_replays apply t show i (v.empty_handed i e))
 
   -- an attempt of which nothing was told, after settling
-  pub settled_untold : (u : Stations V) (show : ℕ → V) (i n : ℕ) (ev : Event V C) (a : Attempt V C) (p p' : Phase) (is : State)
-      → p ≡ p' → ev ≡ nothing → Matches u show i (with_grant (cond (turned (state_of p) is) a.awaiting None) a)
-      → Matches u show i (continued n (state_of p') is ev a)
-  settled_untold u show i n ev a p p' is e none k = grind arith
+  pub settled_untold : (t mid u : Stations V) (show : ℕ → V) (o : Observation V C) (c : Call C) (a : Answer V) (i : ℕ)
+      → (mid i).phase ≡ (t i).phase → event c a i ≡ nothing → MatchesMoved mid u show i (o.attempts i)
+      → MatchesAfter t u show o c a i
+  settled_untold t mid u show o c a i e none k = rw (none, ← e) k
 
 -- What an engine tells of a table.
 
@@ -178,7 +190,7 @@ module _ {V C : Type 0} (apply : V → C → V) (opening : ℕ → V) where
   pub consistent_step : (t t' : Table V) (o : Observation V C) (c : Call C) (a : Answer V) (w w' : View V C) → Tells w t
       → Tells w' t' → w c ≡ a → Invariant t.stations t.next_stamp t.records
       → Invariant t'.stations t'.next_stamp t'.records → 0 < t'.next_stamp → Blocked t'.stations
-      → ((i : ℕ) → works (t'.stations i).phase ≡ true → Matches apply t'.stations t'.show i (continued (suc o.started) (state_of (t.stations i).phase) (state_of (t'.stations i).phase) (event c a i) (o.attempts i)))
+      → ((i : ℕ) → works (t'.stations i).phase ≡ true → MatchesAfter apply t.stations t'.stations t'.show o c a i)
       → AllAgree apply (commits_after (told c a) (caller c) o.attempts o.committed) opening
       → ((r : ℕ) → r < t'.records → t'.show r ≡ all_left apply (commits_after (told c a) (caller c) o.attempts o.committed) opening r)
       → t'.commits ≡ length (commits_after (told c a) (caller c) o.attempts o.committed) → Consistent t' (observe w c w' o)

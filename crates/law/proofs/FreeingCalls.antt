@@ -16,14 +16,14 @@ use Rattle.rules.specs.Calls.{state_of, after, answer}
 use Rattle.rules.proofs.Searches.{eqb_refl}
 use Rattle.rules.proofs.Stations.{put_cases, put_same, put_other}
 use Rattle.rules.proofs.Widening.{widened_has_first}
-use Rattle.law.specs.Observer.{View, turned, Event, nothing, commits, ends, waits, taken_by, told, event, is_commit, Attempt, after_event, with_grant, continued, Observation, observe}
+use Rattle.law.specs.Observer.{View, turned, nothing, commits, ends, waits, taken_by, told, event, is_commit, Attempt, after_event, with_grant, continued, Observation, observe}
 use Rattle.law.specs.Alone.{left, Agrees, all_left}
 use Rattle.law.proofs.Hands.{aspect_adjusted}
 use Rattle.law.proofs.Invariants.{Invariant, put_keeps, adjusted_adds_nothing, put_leaves_blocked, idle_keeps}
 use Rattle.law.proofs.Wounding.{closed_under_younger_holders, members_at_work, at_work_spared, spared_same, wounded_empty, wounding_keeps, yielding_at_work, take_keeps}
 use Rattle.rules.proofs.Spared.{taker_spared}
 use Rattle.law.proofs.SerialOrder.{Replays, replays_if_drafts_same, replays_if_empty_put, replays_if_closed_set_wounded, before_free_is_plotted, replays_if_other_commits}
-use Rattle.law.proofs.Consistency.{held_mode, Matches, Settled, settled, settled_untold, Tells, Consistent, consistent_step, carried_on}
+use Rattle.law.proofs.Consistency.{held_mode, Matches, Settled, settled, settled_untold, Tells, Consistent, consistent_step, carried_on, MatchesAfter}
 use Rattle.law.proofs.PlainCalls.{silent, untold, Following, others_match}
 
 module _ {V C : Type 0} (apply : V → C → V) (opening : ℕ → V) (t : Table V) (o : Observation V C)
@@ -38,9 +38,8 @@ module _ {V C : Type 0} (apply : V → C → V) (opening : ℕ → V) (t : Table
   settling_consistent c a mid w' tells' e none v k =
       consistent_step apply opening t (with_stations t (settle t.show mid)) o c a w w' tells tells' e g.invariant
       s.invariant g.next_positive s.blocked
-      (λ i x. settled_untold apply (settle t.show mid) t.show i (suc o.started) (event c a i) (o.attempts i)
-      (mid i).phase (t.stations i).phase (state_of (settle t.show mid i).phase)
-      (k i (sym (s.same_work i) ∙ x)).0 (k i (sym (s.same_work i) ∙ x)).1 (s.matches i x))
+      (λ i x. let q = k i (sym (s.same_work i) ∙ x) in
+      settled_untold apply t.stations mid (settle t.show mid) t.show o c a i q.0 q.1 (s.matches i x))
       (rw none g.answers_agree) (rw none g.values_left) (rw none g.commits_counted)
     where
       s : Settled apply mid (settle t.show mid) t.next_stamp t.records t.show o.attempts
@@ -120,11 +119,10 @@ module _ {V C : Type 0} (apply : V → C → V) (opening : ℕ → V) (t : Table
       s = settled apply mid t.next_stamp t.records v show' o.attempts (λ i x. matches i x (cases_eq i k))
 
       matches_after : (i : ℕ) → works (settle show' mid i).phase ≡ true → (i ≡ k) ⊎ (i ≡ k → ⊥)
-          → Matches apply (settle show' mid) show' i (continued (suc o.started) (state_of (t.stations i).phase) (state_of (settle show' mid i).phase) (event (Commit k) (Committed (suc t.commits)) i) (o.attempts i))
+          → MatchesAfter apply t.stations (settle show' mid) show' o (Commit k) (Committed (suc t.commits)) i
       matches_after i x (inl ik) = cc (sym (s.same_work i) ∙ x, rests i ik)
       matches_after i x (inr nk) =
-          settled_untold apply (settle show' mid) show' i (suc o.started) (event (Commit k) (Committed (suc t.commits)) i)
-          (o.attempts i) (mid i).phase (t.stations i).phase (state_of (settle show' mid i).phase)
+          settled_untold apply t.stations mid (settle show' mid) show' o (Commit k) (Committed (suc t.commits)) i
           (rw (put_other t.stations k idle_station i nk)) (untold k i commits nk) (s.matches i x)
 
       -- the values that the attempts committed so far leave
@@ -179,7 +177,7 @@ module _ {V C : Type 0} (apply : V → C → V) (opening : ℕ → V) (t : Table
       none = g.invariant.empty_handed k (rw was)
 
       matches : (i : ℕ) → works (put t.stations k idle_station i).phase ≡ true → (i ≡ k) ⊎ (i ≡ k → ⊥)
-          → Matches apply (put t.stations k idle_station) t.show i (continued (suc o.started) (state_of (t.stations i).phase) (state_of (put t.stations k idle_station i).phase) (event (GiveUp k) (Number n) i) (o.attempts i))
+          → MatchesAfter apply t.stations (put t.stations k idle_station) t.show o (GiveUp k) (Number n) i
       matches i x (inl ik) = cc (rw (ik, put_same t.stations k idle_station) at x)
       matches i x (inr nk) = others_match apply opening t o g w tells (GiveUp k) (Number n) k idle_station none refl i nk
           (untold k i ends nk)
@@ -326,22 +324,16 @@ module _ {V C : Type 0} (apply : V → C → V) (opening : ℕ → V) (t : Table
       s : Settled apply mid u t.next_stamp t.records t.show attempts
       s = settled apply mid t.next_stamp t.records v t.show attempts (λ i x. matches i x (cases_eq i k))
 
-      ev : ℕ → Event V C
-      ev i = event (Take k r m) (answer apply (Take k r m) t) i
-
       matches_after : (i : ℕ) → works (u i).phase ≡ true → (i ≡ k) ⊎ (i ≡ k → ⊥)
-          → Matches apply u t.show i (continued (suc o.started) (state_of (t.stations i).phase) (state_of (u i).phase) (ev i) (o.attempts i))
+          → MatchesAfter apply t.stations u t.show o (Take k r m) (answer apply (Take k r m) t) i
       matches_after i x (inr nk) =
           let as_before : attempts i ≡ o.attempts i = rw (ne_eqb i k nk) in
           let same : mid i ≡ t.stations i = put_other after_wounding k new i nk ∙ spared_same members t.stations i
           (other_spared i nk (sym (s.same_work i) ∙ x)) in
-          settled_untold apply u t.show i (suc o.started) (ev i) (o.attempts i) (mid i).phase (t.stations i).phase
-          (state_of (u i).phase) (rw same)
+          settled_untold apply t.stations mid u t.show o (Take k r m) (answer apply (Take k r m) t) i (rw same)
           (untold k i (told (Take k r m) (answer apply (Take k r m) t)) nk) (rw as_before at (s.matches i x))
       matches_after i x (inl ik) =
-          subst (λ (j : ℕ). Matches apply u t.show j
-          (continued (suc o.started) (state_of (t.stations j).phase) (state_of (u j).phase) (ev j) (o.attempts j)))
-          (sym ik) taker
+          subst (MatchesAfter apply t.stations u t.show o (Take k r m) (answer apply (Take k r m) t)) (sym ik) taker
         where
           at_work : works (u k).phase ≡ true
           at_work = rw ik at x
@@ -352,6 +344,6 @@ module _ {V C : Type 0} (apply : V → C → V) (opening : ℕ → V) (t : Table
           now : Matches apply u t.show k (with_grant (cond (turned Waiting (state_of (u k).phase)) (Some (r, m)) None) (after_event (suc o.started) (waits r m) (o.attempts k)))
           now = rw (taker_waits, attempt_waits) at (s.matches k at_work)
 
-          taker : Matches apply u t.show k (continued (suc o.started) (state_of (t.stations k).phase) (state_of (u k).phase) (ev k) (o.attempts k))
+          taker : MatchesAfter apply t.stations u t.show o (Take k r m) (answer apply (Take k r m) t) k
           taker = rw (was, eqb_refl k) (taker_matches u t.show k (suc o.started) (o.attempts k) r m
               (count_below 16 members) (u k).phase refl at_work now)

@@ -12,11 +12,11 @@ use Rattle.rules.specs.Operations.{before, seen, adjust, redrafted}
 use Rattle.rules.specs.Calls.{state_of, after, answer, owns}
 use Rattle.rules.proofs.Searches.{eqb_refl}
 use Rattle.rules.proofs.Stations.{put_same, put_other}
-use Rattle.law.specs.Observer.{View, turned, caller, looked, changed, Event, nothing, starts, notes, told, event, continued, Observation, observe}
+use Rattle.law.specs.Observer.{View, turned, caller, looked, changed, Event, nothing, starts, notes, told, event, Observation, observe}
 use Rattle.law.proofs.Hands.{hold_on_adjusted, aspect_adjusted}
 use Rattle.law.proofs.Invariants.{Invariant, resting_waits_not, emptied_adds_nothing, put_keeps, adjusted_adds_nothing, begin_keeps, put_leaves_blocked}
 use Rattle.law.proofs.SerialOrder.{replays_if_empty_put, replays_if_other_changes, replays_own_change, replays_own_look}
-use Rattle.law.proofs.Consistency.{held_mode, turned_not, Matches, fresh_matches, untouched_matches, Tells, Consistent, consistent_step, carried_on}
+use Rattle.law.proofs.Consistency.{held_mode, turned_not, fresh_matches, untouched_matches, Tells, Consistent, consistent_step, MatchesAfter}
 
 -- a call that tells nothing tells nothing of any station
 pub silent : {V C : Type 0} (c : Call C) (a : Answer V) (i : ℕ) → told c a ≡ nothing → event c a i ≡ nothing
@@ -42,21 +42,18 @@ module _ {V C : Type 0} (apply : V → C → V) (opening : ℕ → V) (t : Table
       → Consistent apply opening t (observe w c w' o)
   silent_consistent c a w' tells' e none =
       consistent_step apply opening t t o c a w w' tells tells' e g.invariant g.invariant g.next_positive g.blocked
-      (λ i _. untouched_matches apply t.stations t.stations t.show i (suc o.started) (event c a i) (o.attempts i)
-      refl (silent c a i none) (g.matches i))
+      (λ i _. untouched_matches apply t.stations t.stations t.show t.show o c a i refl (silent c a i none)
+      (g.matches i).replays (g.matches i))
       (rw none g.answers_agree) (rw none g.values_left) (rw none g.commits_counted)
 
   -- a station k with an empty hand, put as x with an empty hand: the others match
   pub others_match : (c : Call C) (a : Answer V) (k : ℕ) (x : Station V) → (t.stations k).hand ≡ [] → x.hand ≡ [] → (i : ℕ)
       → (i ≡ k → ⊥) → event c a i ≡ nothing
-      → Matches apply (put t.stations k x) t.show i (continued (suc o.started) (state_of (t.stations i).phase) (state_of (put t.stations k x i).phase) (event c a i) (o.attempts i))
+      → MatchesAfter apply t.stations (put t.stations k x) t.show o c a i
   others_match c a k x none none' i nk e =
-      let here : put t.stations k x i ≡ t.stations i = put_other t.stations k x i nk in
-      untouched_matches apply t.stations (put t.stations k x) t.show i (suc o.started) (event c a i) (o.attempts i)
-      here e
-      (carried_on apply t.stations (put t.stations k x) t.show t.show i (o.attempts i) here
+      untouched_matches apply t.stations (put t.stations k x) t.show t.show o c a i (put_other t.stations k x i nk) e
       (replays_if_empty_put apply t.stations t.show k x none none' i nk (o.attempts i).entries (g.matches i).replays)
-      (g.matches i))
+      (g.matches i)
 
   -- a station k that is not at work starts an attempt with stamp s: what is left to show is the invariants
   start_consistent : (c : Call C) (a : Answer V) (k s : ℕ) (t' : Table V) (w' : View V C)
@@ -82,7 +79,7 @@ module _ {V C : Type 0} (apply : V → C → V) (opening : ℕ → V) (t : Table
       was_not_waiting p q = grind arith
 
       matches : (i : ℕ) → (i ≡ k) ⊎ (i ≡ k → ⊥)
-          → Matches apply (put t.stations k new) t.show i (continued (suc o.started) (state_of (t.stations i).phase) (state_of (put t.stations k new i).phase) (event c a i) (o.attempts i))
+          → MatchesAfter apply t.stations (put t.stations k new) t.show o c a i
       matches i (inr nk) = others_match c a k new none refl i nk (rw named (untold k i (told c a) nk))
       matches i (inl ik) =
           let ev : event c a k ≡ starts = rw (named, eqb_refl k) starts_it in
@@ -118,9 +115,9 @@ module _ {V C : Type 0} (apply : V → C → V) (opening : ℕ → V) (t : Table
       v = seen (t.stations k).hand (before t.stations t.show k) r
 
       matches : (i : ℕ) → (i ≡ k) ⊎ (i ≡ k → ⊥)
-          → Matches apply t.stations t.show i (continued (suc o.started) (state_of (t.stations i).phase) (state_of (t.stations i).phase) (event (Look k r) (Value v) i) (o.attempts i))
-      matches i (inr nk) = untouched_matches apply t.stations t.stations t.show i (suc o.started)
-          (event (Look k r) (Value v) i) (o.attempts i) refl (untold k i (notes (looked r v)) nk) (g.matches i)
+          → MatchesAfter apply t.stations t.stations t.show o (Look k r) (Value v) i
+      matches i (inr nk) = untouched_matches apply t.stations t.stations t.show t.show o (Look k r) (Value v) i refl
+          (untold k i (notes (looked r v)) nk) (g.matches i).replays (g.matches i)
       matches i (inl ik) = rw (ik, turned_not (t.stations k).phase, eqb_refl k)
           (record {
             replays = replays_own_look apply t.stations t.show k r own.0 own.1 (o.attempts k).entries
@@ -166,14 +163,12 @@ module _ {V C : Type 0} (apply : V → C → V) (opening : ℕ → V) (t : Table
           )
 
       matches : (i : ℕ) → (i ≡ k) ⊎ (i ≡ k → ⊥)
-          → Matches apply (put t.stations k new) t.show i (continued (suc o.started) (state_of (t.stations i).phase) (state_of (put t.stations k new i).phase) (event (Change k r c) (Value (apply d c)) i) (o.attempts i))
+          → MatchesAfter apply t.stations (put t.stations k new) t.show o (Change k r c) (Value (apply d c)) i
       matches i (inr nk) =
-          let here : put t.stations k new i ≡ t.stations i = put_other t.stations k new i nk in
-          untouched_matches apply t.stations (put t.stations k new) t.show i (suc o.started)
-          (event (Change k r c) (Value (apply d c)) i) (o.attempts i) here (untold k i (notes (changed r c (apply d c))) nk)
-          (carried_on apply t.stations (put t.stations k new) t.show t.show i (o.attempts i) here
+          untouched_matches apply t.stations (put t.stations k new) t.show t.show o (Change k r c) (Value (apply d c)) i
+          (put_other t.stations k new i nk) (untold k i (notes (changed r c (apply d c))) nk)
           (replays_if_other_changes apply t.stations t.next_stamp t.records g.invariant t.show k r c h d at_r own
-          drafted i (o.attempts i).entries nk (g.matches i).replays) (g.matches i))
+          drafted i (o.attempts i).entries nk (g.matches i).replays) (g.matches i)
       matches i (inl ik) =
           rw (ik, put_same t.stations k new, turned_not (t.stations k).phase, eqb_refl k)
           (record {
