@@ -74,16 +74,12 @@ module _ {V C : Type 0} (apply : V → C → V) (opening : ℕ → V) (t : Table
           put_cases (λ s. aspect (hold_on q s.hand) ≡ aspect (hold_on q (t.stations j).hand)) t.stations k new j
           (λ jk. rw jk (aspect_adjusted retired (λ _. refl) r aspect (t.stations k).hand h at_r same q)) (λ _. refl)
 
-      still_held : (x y : Option (Hold V)) (h : Hold V) → is_some y ≡ is_some x → x ≡ Some h → (h' : Hold V) × (y ≡ Some h')
-      still_held x y h a b = grind arith
-
       matches : (i : ℕ) → Matches apply mid t.show i (o.attempts i)
       matches i =
           record {
             replays = replays_if_drafts_same apply t.stations mid t.show i (o.attempts i).entries stamps
                 (aspect_kept draft_in refl)
-                (λ q x f. still_held (hold_on q (t.stations i).hand) (hold_on q (mid i).hand) x (aspect_kept is_some refl i q)
-                f) (g.matches i).replays;
+                (λ q x f. grind (arith, aspect_kept is_some refl i q)) (g.matches i).replays;
             holds_observed = λ q. (g.matches i).holds_observed q ∙ sym (aspect_kept held_mode refl i q);
             wait_observed = λ q m x. (g.matches i).wait_observed q m (sym (phase i) ∙ x);
           }
