@@ -1,22 +1,21 @@
 -- How the table and what was observed belong together, and how one call carries that on.
-use Rattle.std.proofs.Common.{◌≡◌, ℕ, suc, ◌<◌, ◌≤◌, Bool, true, false, cond, eqb, leb, ◌⊎◌, List, [], length, Some, None, Option, sym, refl, ap, ◌∙◌, inl, inr, arith}
-use Rattle.std.proofs.lemmas.Bool.{eq-eqb, ne_eqb, cases_eq, leb-true, leb-false}
+use Rattle.std.proofs.Common.{◌≡◌, ℕ, suc, ◌<◌, ◌≤◌, true, false, cond, List, [], length, Some, None, Option, sym, ap, ◌∙◌, inl, inr, arith}
+use Rattle.std.proofs.lemmas.Bool.{cond_both, cases_lt}
+use Rattle.std.proofs.lemmas.Bool.Decides.{nat_tests}
 use Rattle.rules.specs.declared.Mode.{Mode}
 use Rattle.rules.specs.declared.State.{State}
 use Rattle.rules.specs.declared.Call.{Call}
 use Rattle.rules.specs.declared.Call.TheVariants.{Standing}
 use Rattle.rules.specs.declared.Answer.{Answer}
 use Rattle.rules.specs.declared.Answer.TheVariants.{Refused, Stands}
-use Rattle.rules.specs.Tables.{Hold, Phase, idle, running, wounded, waiting, Stations, Table, hold_mode, is_idle, is_waiting, works, hold_on, older}
-use Rattle.rules.specs.Operations.{granted_station, settle}
+use Rattle.rules.specs.Tables.{Hold, Phase, idle, waiting, Stations, Table, hold_mode, is_waiting, works, hold_on, older}
+use Rattle.rules.specs.Operations.{settle}
 use Rattle.rules.specs.Calls.{state_of, stamp_of, standing_of}
-use Rattle.rules.proofs.Searches.{contradiction}
 use Rattle.law.specs.Observer.{View, state_in, stamp_in, working, turned, state, stamp, at_work, older_than, caller, Entry, Event, nothing, told, event, Attempt, fresh, granted_of, with_grant, continued, followed, predecessors_at, with_predecessors, Observation, commits_after, heard, observe}
 use Rattle.law.specs.Alone.{all_left, AllAgree}
 use Rattle.law.proofs.Invariants.{Invariant, works_not_idle, resting_waits_not, mode_granted, Blocked}
 use Rattle.law.proofs.SerialOrder.{Replays, nothing_replays}
 use Rattle.law.proofs.Promotion.{StaysOrGranted, stays, is_granted, Promoting, settling_keeps, settling_blocks, settling_works, settling_replays}
-use Rattle.rules.proofs.Admission.{idle_if}
 use Rattle.rules.specs.declared.Refusal.TheVariants as refusal
 
 -- the mode of a hold, if there is one
@@ -26,17 +25,11 @@ held_mode (Some h) = Some (hold_mode h)
 
 -- who stays in its state does not turn from waiting to running
 pub turned_not : (p : Phase) → turned (state_of p) (state_of p) ≡ false
-turned_not idle = refl
-turned_not running = refl
-turned_not wounded = refl
-turned_not (waiting r m) = refl
+turned_not p = grind arith
 
 -- the observer takes for at work who is at work
 pub working_works : (p : Phase) → working (state_of p) ≡ works p
-working_works idle = refl
-working_works running = refl
-working_works wounded = refl
-working_works (waiting r m) = refl
+working_works p = grind arith
 
 module _ {V C : Type 0} (apply : V → C → V) where
   -- what was observed of the attempt of station i is so in the table
@@ -45,86 +38,72 @@ module _ {V C : Type 0} (apply : V → C → V) where
     pub holds_observed : (r : ℕ) → a.held r ≡ held_mode (hold_on r (t i).hand)
     pub wait_observed : (r : ℕ) (m : Mode) → (t i).phase ≡ waiting r m → a.awaiting ≡ Some (r, m)
 
+  -- so is what was observed of it in call c with answer a, from the stations t to the stations s
+  abbrev pub MatchesAfter : Stations V → Stations V → (ℕ → V) → Observation V C → Call C → Answer V → ℕ → Type 0
+  MatchesAfter t s show o c a i = Matches s show i
+      (continued (suc o.started) (state_of (t i).phase) (state_of (s i).phase) (event c a i) (o.attempts i))
+
+  -- so is the attempt with what it waited for, if its station was granted that between the stations t and the stations s
+  abbrev pub MatchesMoved : Stations V → Stations V → (ℕ → V) → ℕ → Attempt V C → Type 0
+  MatchesMoved t s show i a = Matches s show i
+      (with_grant (cond (turned (state_of (t i).phase) (state_of (s i).phase)) a.awaiting None) a)
+
   -- a new attempt matches a station that holds nothing and does not wait
   pub fresh_matches : (t : Stations V) (show : ℕ → V) (i n : ℕ) → (t i).hand ≡ [] → is_waiting (t i).phase ≡ false
       → Matches t show i (fresh n)
-  fresh_matches t show i n e w =
-      record {
-        replays = nothing_replays apply t show i e;
-        holds_observed = λ r. rw e;
-        wait_observed = λ r m f. contradiction true
-            refl (rw f at w);
-      }
+  fresh_matches t show i n e w = grind (arith, nothing_replays)
 
   -- an attempt matches by its entries, its holds and its wait alone
   pub matches_by_parts : (t : Stations V) (show : ℕ → V) (i : ℕ) (ps : List ℕ) (a : Attempt V C) → Matches t show i a
       → Matches t show i (with_predecessors ps a)
-  matches_by_parts t show i ps a k = record
-      { replays = k.replays; holds_observed = k.holds_observed; wait_observed = k.wait_observed }
+  matches_by_parts t show i ps a k = assumption
 
   -- so its predecessors may be left out
   pub matches_without : (t : Stations V) (show : ℕ → V) (i : ℕ) (ps : List ℕ) (a : Attempt V C)
       → Matches t show i (with_predecessors ps a) → Matches t show i a
-  matches_without t show i ps a k = record
-      { replays = k.replays; holds_observed = k.holds_observed; wait_observed = k.wait_observed }
+  matches_without t show i ps a k = assumption
 
   -- an attempt after a call matches, if it does where it is at work
   pub followed_matches : {t : Stations V} {next records : ℕ} → Invariant t next records
       → (show : ℕ → V) (i n : ℕ) (was : State) (ev : Event V C) (a : Attempt V C)
       → (works (t i).phase ≡ true → Matches t show i (continued n was (state_of (t i).phase) ev a))
       → Matches t show i (followed n was (state_of (t i).phase) ev a)
-  followed_matches {t} v show i n was ev a k = go (t i).phase refl
-    where
-      rest : works (t i).phase ≡ false → Matches t show i (fresh 0)
-      rest e = fresh_matches t show i 0 (v.empty_handed i e) (resting_waits_not (t i).phase e)
+  followed_matches {t} v show i n was ev a k =
+      cond_both (working (state_of (t i).phase)) (continued n was (state_of (t i).phase) ev a) (fresh 0) (Matches t show i)
+      (λ b. k (sym (working_works (t i).phase) ∙ b))
+      (λ b. let e = sym (working_works (t i).phase) ∙ b in
+      fresh_matches t show i 0 (v.empty_handed i e) (resting_waits_not (t i).phase e))
 
-      go : (p : Phase) → (t i).phase ≡ p → Matches t show i (followed n was (state_of p) ev a)
-      go idle e = rest (rw e)
-      go running e = rw e at (k (rw e))
-      go wounded e = rest (rw e)
-      go (waiting r m) e = rw e at (k (rw e))
+  -- an attempt whose station is as it was matches, if it replays
+  pub carried_on : (t t' : Stations V) (show show' : ℕ → V) (i : ℕ) (a : Attempt V C) → t' i ≡ t i
+      → Replays apply t' show' i a.entries → Matches t show i a → Matches t' show' i a
+  carried_on t t' show show' i a here replays k = grind (arith, replays)
 
   -- a station that is as it was, and of which nothing was told
-  pub untouched_matches : (t t' : Stations V) (show : ℕ → V) (i n : ℕ) (ev : Event V C) (a : Attempt V C) → t' i ≡ t i
-      → ev ≡ nothing → Matches t' show i a → Matches t' show i (continued n (state_of (t i).phase) (state_of (t' i).phase) ev a)
-  untouched_matches t t' show i n ev a e none k =
-      let s : turned (state_of (t i).phase) (state_of (t' i).phase) ≡ false = rw e (turned_not (t i).phase) in
-      rw (none, s) k
+  pub untouched_matches : (t t' : Stations V) (show show' : ℕ → V) (o : Observation V C) (c : Call C) (a : Answer V) (i : ℕ)
+      → t' i ≡ t i → event c a i ≡ nothing → Replays apply t' show' i (o.attempts i).entries
+      → Matches t show i (o.attempts i) → MatchesAfter t t' show' o c a i
+  untouched_matches t t' show show' o c a i here none replays k =
+      let s : turned (state_of (t i).phase) (state_of (t' i).phase) ≡ false = rw here (turned_not (t i).phase) in
+      rw (none, s) (carried_on t t' show show' i (o.attempts i) here replays k)
 
   -- an attempt whose station stays or is granted what it waited for
   pub moved_matches : (t u : Stations V) (show : ℕ → V) (i : ℕ) (a : Attempt V C) → Matches t show i a
       → Replays apply u show i a.entries → StaysOrGranted (t i) (u i)
-      → Matches u show i (with_grant (cond (turned (state_of (t i).phase) (state_of (u i).phase)) a.awaiting None) a)
+      → MatchesMoved t u show i a
   moved_matches t u show i a k f (stays e) =
       let same : turned (state_of (t i).phase) (state_of (u i).phase) ≡ false = rw e (turned_not (t i).phase) in
-      rw same (record {
-        replays = f;
-        holds_observed = λ r. rw e (k.holds_observed r);
-        wait_observed = λ r m w. k.wait_observed r
-            m (rw e at w);
-      })
+      rw same (carried_on t u show show i a e f k)
   moved_matches t u show i a k f (is_granted r m d w e) =
       let same : turned (state_of (t i).phase) (state_of (u i).phase) ≡ true = rw (e, w) in
-      rw (same, k.wait_observed r m w)
-      (record {
-        replays = f;
-        holds_observed = λ q. rw e (by q (cases_eq q r));
-        wait_observed = λ q mq wq. contradiction true refl
-            (let x : running ≡ waiting q mq = rw e at wq in cc);
-      })
-    where
-      by : (q : ℕ) → (q ≡ r) ⊎ (q ≡ r → ⊥)
-          → cond (eqb q r) (Some m) (a.held q) ≡ held_mode (hold_on q (granted_station (t i) r m d).hand)
-      by q (inl eq) = rw (eq-eqb q r eq, eq-eqb r q (sym eq), mode_granted m d)
-      by q (inr nq) = rw (ne_eqb q r nq, ne_eqb r q (λ x. nq (sym x))) (k.holds_observed q)
+      rw (same, k.wait_observed r m w) (grind (arith, nat_tests, f, mode_granted m d))
 
   -- what is so after settling t, if each attempt at work matched before
   pub record Settled (t u : Stations V) (next records : ℕ) (show : ℕ → V) (attempts : ℕ → Attempt V C) : Type 0 where
     pub invariant : Invariant u next records
     pub blocked : Blocked u
     pub same_work : (i : ℕ) → works (u i).phase ≡ works (t i).phase
-    pub matches : (i : ℕ) → works (u i).phase ≡ true
-        → Matches u show i (with_grant (cond (turned (state_of (t i).phase) (state_of (u i).phase)) (attempts i).awaiting None) (attempts i))
+    pub matches : (i : ℕ) → works (u i).phase ≡ true → MatchesMoved t u show i (attempts i)
 
   -- settling makes it so
   pub settled : (t : Stations V) (next records : ℕ) → Invariant t next records → (show : ℕ → V) (attempts : ℕ → Attempt V C)
@@ -151,17 +130,14 @@ module _ {V C : Type 0} (apply : V → C → V) where
       entries_at_work i b = rw b
 
       replays : (i : ℕ) → Replays apply t show i (entries i)
-      replays i = go (works (t i).phase) refl
-        where
-          go : (b : Bool) → works (t i).phase ≡ b → Replays apply t show i (cond b (attempts i).entries [])
-          go true e = (k i e).replays
-          go false e = nothing_replays apply t show i (v.empty_handed i e)
+      replays i = cond_both (works (t i).phase) (attempts i).entries [] (Replays apply t show i) (λ e. (k i e).replays)
+          (λ e. nothing_replays apply t show i (v.empty_handed i e))
 
   -- an attempt of which nothing was told, after settling
-  pub settled_untold : (u : Stations V) (show : ℕ → V) (i n : ℕ) (ev : Event V C) (a : Attempt V C) (p p' : Phase) (is : State)
-      → p ≡ p' → ev ≡ nothing → Matches u show i (with_grant (cond (turned (state_of p) is) a.awaiting None) a)
-      → Matches u show i (continued n (state_of p') is ev a)
-  settled_untold u show i n ev a p p' is e none k = rw (none, ← e) k
+  pub settled_untold : (t mid u : Stations V) (show : ℕ → V) (o : Observation V C) (c : Call C) (a : Answer V) (i : ℕ)
+      → (mid i).phase ≡ (t i).phase → event c a i ≡ nothing → MatchesMoved mid u show i (o.attempts i)
+      → MatchesAfter t u show o c a i
+  settled_untold t mid u show o c a i e none k = rw (none, ← e) k
 
 -- What an engine tells of a table.
 
@@ -174,16 +150,11 @@ module _ {V C : Type 0} {w : View V C} {t : Table V} (tells : Tells w t) {next r
     (v : Invariant t.stations next records) where
   -- the state told is the table's
   pub state_told : (i : ℕ) → state w i ≡ state_of (t.stations i).phase
-  state_told i = go (leb 16 i) refl
-    where
-      beyond : 16 ≤ i → (b : Bool) → is_idle (t.stations i).phase ≡ b → (t.stations i).phase ≡ idle
-      beyond l true e = idle_if (t.stations i).phase e
-      beyond l false e = absurd (omega (arith, v.in_range i e))
-
-      go : (b : Bool) → leb 16 i ≡ b → state w i ≡ state_of (t.stations i).phase
-      go false e = ap state_in (tells.standing_told i (leb-false 16 i e))
-      go true e = ap state_in (tells.standing_refused i (leb-true 16 i e)) ∙ ap state_of
-          (sym (beyond (leb-true 16 i e) (is_idle (t.stations i).phase) refl))
+  state_told i = elim (cases_lt i 16) [
+    | inl l ↦ ap state_in (tells.standing_told i l)
+    | inr l ↦ (let none : (t.stations i).phase ≡ idle = grind (arith, v.in_range i) in
+        ap state_in (tells.standing_refused i l) ∙ sym (ap state_of none))
+  ]
 
   -- who is told to be at work is
   pub at_work_told : (i : ℕ) → at_work w i ≡ works (t.stations i).phase
@@ -195,10 +166,7 @@ module _ {V C : Type 0} {w : View V C} {t : Table V} (tells : Tells w t) {next r
       (t.stations i).phase b
     where
       go : (p : Phase) → works p ≡ true → stamp_of p (t.stations i).stamp ≡ Some (t.stations i).stamp
-      go idle e = contradiction false e refl
-      go running e = refl
-      go wounded e = contradiction false e refl
-      go (waiting r m) e = refl
+      go p e = grind arith
 
   -- of two at work, the older by what is told is the older
   pub older_told : (j i : ℕ) → works (t.stations j).phase ≡ true → works (t.stations i).phase ≡ true
@@ -222,7 +190,7 @@ module _ {V C : Type 0} (apply : V → C → V) (opening : ℕ → V) where
   pub consistent_step : (t t' : Table V) (o : Observation V C) (c : Call C) (a : Answer V) (w w' : View V C) → Tells w t
       → Tells w' t' → w c ≡ a → Invariant t.stations t.next_stamp t.records
       → Invariant t'.stations t'.next_stamp t'.records → 0 < t'.next_stamp → Blocked t'.stations
-      → ((i : ℕ) → works (t'.stations i).phase ≡ true → Matches apply t'.stations t'.show i (continued (suc o.started) (state_of (t.stations i).phase) (state_of (t'.stations i).phase) (event c a i) (o.attempts i)))
+      → ((i : ℕ) → works (t'.stations i).phase ≡ true → MatchesAfter apply t.stations t'.stations t'.show o c a i)
       → AllAgree apply (commits_after (told c a) (caller c) o.attempts o.committed) opening
       → ((r : ℕ) → r < t'.records → t'.show r ≡ all_left apply (commits_after (told c a) (caller c) o.attempts o.committed) opening r)
       → t'.commits ≡ length (commits_after (told c a) (caller c) o.attempts o.committed) → Consistent t' (observe w c w' o)

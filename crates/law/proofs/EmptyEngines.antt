@@ -1,5 +1,6 @@
 -- The law refuses the empty engines.
-use Rattle.std.proofs.Common.{◌≡◌, ℕ, Bool, true, false, cond, leb, List, [], ◌∷◌, Some, None, refl, ap, arith}
+use Rattle.std.proofs.Common.{◌≡◌, ℕ, List, [], ◌∷◌, refl, ap, arith}
+use Rattle.std.proofs.lemmas.Bool.Decides.{nat_tests}
 use Rattle.rules.specs.declared.Mode.TheVariants.{Exclusive}
 use Rattle.rules.specs.declared.State.TheVariants.{Running, Waiting}
 use Rattle.rules.specs.declared.Call.{Call}
@@ -7,13 +8,10 @@ use Rattle.rules.specs.declared.Call.TheVariants.{Begin, Take, Change, Retire, C
 use Rattle.rules.specs.declared.Answer.{Answer}
 use Rattle.rules.specs.declared.Answer.TheVariants.{Value}
 use Rattle.rules.specs.Operations.{before, bonds, widen, wound, grantable, grant, promote, wounded_by_take, wounded_by_give_up}
-use Rattle.rules.specs.Calls.{outcome, step, opened}
-use Rattle.rules.proofs.Searches.{contradiction}
+use Rattle.rules.specs.Calls.{step}
 use Rattle.law.specs.Observer.{state_in, observe}
 use Rattle.law.specs.Law.{Serial, Ordered, Live}
 use Rattle.law.specs.EmptyEngines.{up, engine_of, give_up_wounds_nobody, commit_writes_nothing, commit_always_refuses, take_always_waits, EmptyEnginesRefused}
-use Rattle.rules.proofs.Admission.{refused_not_value, refused_not_committed}
-use Rattle.rules.specs.declared.Refusal.TheVariants as refusal
 
 -- one change, committed; the newest call comes first
 abbrev committed_change : List (Call ℕ)
@@ -21,16 +19,12 @@ committed_change = Commit 0 ∷ Change 0 5 50 ∷ Take 0 5 Exclusive ∷ Begin 0
 
 -- a value that was changed is not the old one
 not_both : (a : Answer ℕ) → a ≡ Value 100 → a ≡ Value 150 → ⊥
-not_both a e f = let z : ◌≡◌ {A = ℕ} 100 150 = cc in omega arith
+not_both a e f = grind arith
 
 -- the opening values are 100
 opens_at_100 : (r v : ℕ) → engine_of commit_writes_nothing [] (Plotted r) ≡ Value v → 100 ≡ v
 unfolding commit_writes_nothing step
-opens_at_100 r v e = go (leb 7 r) e
-  where
-    go : (b : Bool) → (outcome up (cond b (Some refusal.Record) None) (Plotted r) (opened 1 (λ r. 100) 7)).0 ≡ Value v → 100 ≡ v
-    go true q = absurd (refused_not_value refusal.Record v q)
-    go false q = cc
+opens_at_100 r v e = grind (arith, nat_tests)
 
 -- a commit that writes nothing leaves the opening value, where the change run alone leaves another
 writes_nothing_refused : ((h : List (Call ℕ)) → Serial up (engine_of commit_writes_nothing) h) → ⊥
@@ -45,17 +39,17 @@ follower_left = GiveUp 0 ∷ Take 1 5 Exclusive ∷ Retire 0 5 ∷ Take 0 5 Excl
 -- a give up that wounds nobody leaves a follower at work whose predecessor has ended uncommitted
 wounds_nobody_refused : ((h : List (Call ℕ)) → Ordered (engine_of give_up_wounds_nobody) h) → ⊥
 unfolding give_up_wounds_nobody step promote grant grantable wound widen bonds before wounded_by_take wounded_by_give_up observe
-wounds_nobody_refused ordered = contradiction false ((ordered follower_left).predecessors_stand 1 refl).0 refl
+wounds_nobody_refused ordered = cc (((ordered follower_left).predecessors_stand 1 refl).0)
 
 -- a commit that always refuses stops the oldest attempt at work
 always_refuses_refused : ((h : List (Call ℕ)) → Live (engine_of commit_always_refuses) h) → ⊥
 unfolding commit_always_refuses step promote grant grantable wound widen bonds before wounded_by_take wounded_by_give_up observe
 always_refuses_refused live =
-    let c = (live (Begin 0 ∷ [])).oldest_commits 0 refl in refused_not_committed refusal.Waiting c.0 c.1
+    let c = (live (Begin 0 ∷ [])).oldest_commits 0 refl in cc (c.1)
 
 -- who waits does not run
 waiting_not_running : Waiting ≡ Running → ⊥
-waiting_not_running e = let z : ◌≡◌ {A = ℕ} 0 1 = cc in omega arith
+waiting_not_running e = cc
 
 -- a take that always waits lets the oldest attempt at work wait
 always_waits_refused : ((h : List (Call ℕ)) → Live (engine_of take_always_waits) h) → ⊥

@@ -1,23 +1,22 @@
 -- Which attempts a call starts, ends and lets go on.
-use Rattle.std.proofs.Common.{◌≡◌, ℕ, suc, ◌<◌, Bool, true, false, cond, not, ◌&&◌, eqb, ◌⊎◌, [], length, Some, None, Option, sym, refl, ap, ◌∙◌, inl, inr, arith}
-use Rattle.std.proofs.lemmas.Bool.{eqb-true, eq-eqb, ne_eqb, cases_eq}
+use Rattle.std.proofs.Common.{◌≡◌, ℕ, ◌<◌, Bool, true, false, eqb, ◌⊎◌, [], length, Some, None, sym, refl, ap, ◌∙◌, inl, inr, arith}
+use Rattle.std.proofs.lemmas.Bool.{eqb-true, eq-eqb, cases_eq, cases_Bool}
+use Rattle.std.proofs.lemmas.Bool.Decides.{nat_tests}
 use Rattle.rules.specs.declared.Mode.{Mode}
 use Rattle.rules.specs.declared.Mode.TheVariants.{Exclusive}
-use Rattle.rules.specs.declared.Outcome.TheVariants.{Granted, Waits}
 use Rattle.rules.specs.declared.Call.{Call}
 use Rattle.rules.specs.declared.Call.TheVariants.{Begin, Take, Change, Retire, Commit, GiveUp, Again}
 use Rattle.rules.specs.declared.Answer.{Answer}
-use Rattle.rules.specs.declared.Answer.TheVariants.{Number, Taken, Committed}
-use Rattle.rules.specs.Searches.{count_below}
-use Rattle.rules.specs.Tables.{Hold, Phase, idle, running, wounded, waiting, Station, Stations, Table, hold_mode, owned, is_idle, is_waiting, works, hold_on, idle_station, running_station, waiting_station, with_hand, put}
+use Rattle.rules.specs.declared.Answer.TheVariants.{Number}
+use Rattle.rules.specs.Tables.{Hold, idle, running, wounded, Station, Stations, Table, hold_mode, owned, is_idle, works, hold_on, idle_station, running_station, waiting_station, with_hand, put, is_wounded}
 use Rattle.rules.specs.Operations.{seen, bonds, widen, wound, granted_station, settle, must_yield, wounded_by_take, wounded_by_give_up, adjust, retired, redrafted}
 use Rattle.rules.specs.Calls.{after, answer}
-use Rattle.rules.proofs.Searches.{contradiction, none_not_some, eqb_refl}
+use Rattle.rules.proofs.Searches.{eqb_refl}
 use Rattle.rules.proofs.Stations.{put_cases, put_same, put_other}
 use Rattle.rules.proofs.Widening.{widened_has_first}
-use Rattle.law.specs.Observer.{stamp, caller, names, Event, nothing, starts, commits, ends, waits, gets, taken_by, told, event, is_commit, is_over, is_start}
+use Rattle.law.specs.Observer.{stamp, caller, names, Event, nothing, starts, waits, gets, told, event, is_commit, is_over, is_start}
 use Rattle.law.proofs.Hands.{aspect_adjusted}
-use Rattle.law.proofs.Invariants.{Invariant, works_not_idle, emptied_adds_nothing, put_keeps, adjusted_adds_nothing}
+use Rattle.law.proofs.Invariants.{Invariant, works_not_idle, put_keeps, adjusted_adds_nothing, idle_keeps}
 use Rattle.law.proofs.Wounding.{closed_under_younger_holders, members_at_work, at_work_spared, spared_same, wounded_rests, wounding_keeps, yielding_at_work, take_keeps}
 use Rattle.rules.proofs.Spared.{members_no_older, taker_older, taker_spared}
 use Rattle.law.proofs.Promotion.{StaysOrGranted, stays, is_granted, settling_keeps, settling_works}
@@ -60,13 +59,7 @@ same_goes_on s s' e w = record { was_at_work = rw (← e) w; same_stamp = rw e; 
 -- who goes on to a hand with the same modes
 modes_go_on : {V : Type 0} (s s' : Station V) → works s.phase ≡ true → s'.stamp ≡ s.stamp
     → ((r : ℕ) → held_mode (hold_on r s'.hand) ≡ held_mode (hold_on r s.hand)) → GoesOn s s'
-modes_go_on {V} s s' w stamp modes = record
-    { was_at_work = w; same_stamp = stamp; keeps_holds = λ r h f. go (hold_on r s'.hand) h (modes r ∙ ap held_mode f) }
-  where
-    go : (x : Option (Hold V)) (h : Hold V) → held_mode x ≡ Some (hold_mode h)
-        → (h' : Hold V) × (x ≡ Some h') × (hold_mode h' ≡ hold_mode h)
-    go None h e = contradiction true refl (cc)
-    go (Some h') h e = (h', refl, cc)
+modes_go_on s s' w stamp modes = grind (arith, modes)
 
 -- who goes on to mid goes on through settling
 settled_goes_on : {V : Type 0} (s : Stations V) (mid : Stations V) (next records : ℕ) (show : ℕ → V) → Invariant mid next records
@@ -84,25 +77,8 @@ settled_goes_on {V} s mid next records show v on i w = go (settle show mid i) ((
       where
         keeps : (q : ℕ) (h : Hold V) → hold_on q (s i).hand ≡ Some h
             → (h' : Hold V) × (hold_on q (granted_station (mid i) r m d).hand ≡ Some h') × (hold_mode h' ≡ hold_mode h)
-        keeps q h f =
-            let p = g.keeps_holds q h f in
-            let apart : eqb r q ≡ false = ne_eqb r q
-            (λ rq. none_not_some (hold_on q (mid i).hand) p.0 (rw (← rq) (v.awaited_not_held i r m wait)) p.1) in
-            (p.0, rw apart p.1, p.2)
-
--- what is told of no station holds of none
-untold_of_none : {V C : Type 0} (test : Event V C → Bool) (c : Call C) (a : Answer V) → test nothing ≡ false
-    → test (told c a) ≡ false → (i : ℕ) → test (event c a i) ≡ false
-untold_of_none test c a none it i = go (names c i)
-  where
-    go : (b : Bool) → test (cond b (told c a) nothing) ≡ false
-    go true = it
-    go false = none
-
--- what is not told is not so of any station
-never : {V C X : Type 0} (test : Event V C → Bool) (c : Call C) (a : Answer V) → test nothing ≡ false → test (told c a) ≡ false
-    → (i : ℕ) → test (event c a i) ≡ true → X
-never test c a none it i e = contradiction (test (event c a i)) e (untold_of_none test c a none it i)
+        keeps q h f = let p = g.keeps_holds q h f in
+            (p.0, grind (arith, nat_tests, v.awaited_not_held i r m, p.1), p.2)
 
 -- a call that ends nobody's attempt
 none_end : {V C : Type 0} (t t' : Stations V) (c : Call C) (a : Answer V)
@@ -113,11 +89,11 @@ none_end : {V C : Type 0} (t t' : Stations V) (c : Call C) (a : Answer V)
 none_end t t' c a keep no_commit over from_rest on =
     record {
       out = λ _. false;
-      closed = λ i j r h k e _ _ _ _. contradiction false e refl;
-      ended = λ i e. contradiction false e refl;
-      only = λ j w n. contradiction (works (t' j).phase) (keep j w) n;
-      younger = λ i e. contradiction false e refl;
-      free = λ i e. never is_commit c a refl no_commit i e;
+      closed = λ i j r h k e _ _ _ _. cc;
+      ended = λ i e. cc;
+      only = λ j w n. cc (keep j w);
+      younger = λ i e. cc;
+      free = λ i e. grind arith;
       over = over;
       starts_from_rest = from_rest;
       goes_on = on;
@@ -128,14 +104,20 @@ pub unchanged_ends_none : {V C : Type 0} (t : Stations V) (c : Call C) (a : Answ
     → is_over (told c a) ≡ false → is_start (told c a) ≡ false → Ends t t c a
 unchanged_ends_none t c a no_commit not_over no_start =
     none_end t t c a (λ j w. w) no_commit
-    (λ i e. never is_over c a refl not_over i e)
-    (λ i e. never is_start c a refl no_start i e)
+    (λ i e. grind arith)
+    (λ i e. grind arith)
     (λ i w _. same_goes_on (t i) (t i) refl w)
 
 -- a station put that is at work leaves everybody at work who was
 put_at_work : {V : Type 0} (t : Stations V) (k : ℕ) (x : Station V) → works x.phase ≡ true → (j : ℕ)
     → works (t j).phase ≡ true → works (put t k x j).phase ≡ true
-put_at_work t k x w j = put_cases (λ s. works (t j).phase ≡ true → works s.phase ≡ true) t k x j (λ _ _. w) (λ _ h. h)
+put_at_work t k x w j e = grind arith
+
+-- a station put idle lets everybody go on who is at work then
+idle_goes_on : {V : Type 0} (t : Stations V) (k i : ℕ) → works (put t k idle_station i).phase ≡ true
+    → GoesOn (t i) (put t k idle_station i)
+idle_goes_on t k i = put_cases (λ s. works s.phase ≡ true → GoesOn (t i) s) t k idle_station i (λ _ w. cc)
+    (λ _ w. same_goes_on (t i) (t i) refl w)
 
 module _ {V C : Type 0} (apply : V → C → V) (t : Table V) (v : Invariant t.stations t.next_stamp t.records) where
   -- what call c makes of the attempts
@@ -147,22 +129,17 @@ module _ {V C : Type 0} (apply : V → C → V) (t : Table V) (v : Invariant t.s
       → works (t.stations k).phase ≡ false → works x.phase ≡ true → Ends t.stations (put t.stations k x) c a
   start_ends c a k x named starts_it rest w =
       none_end t.stations (put t.stations k x) c a (put_at_work t.stations k x w) (rw starts_it)
-      (λ i e. never is_over c a refl (rw starts_it) i e)
-      (λ i e. from_rest i e (cases_eq i k)) (λ i y e. on i y e (cases_eq i k))
+      (λ i e. grind arith)
+      (λ i e. grind (arith, cases_eq i k, untold_of i)) on
     where
       untold_of : (i : ℕ) → (i ≡ k → ⊥) → event c a i ≡ nothing
       untold_of i nk = rw named (untold k i (told c a) nk)
 
-      from_rest : (i : ℕ) → is_start (event c a i) ≡ true → (i ≡ k) ⊎ (i ≡ k → ⊥) → works (t.stations i).phase ≡ false
-      from_rest i e (inl ik) = rw ik rest
-      from_rest i e (inr nk) = contradiction (is_start (event c a i)) e (ap is_start (untold_of i nk))
-
-      on : (i : ℕ) → works (put t.stations k x i).phase ≡ true → is_start (event c a i) ≡ false → (i ≡ k) ⊎ (i ≡ k → ⊥)
+      on : (i : ℕ) → works (put t.stations k x i).phase ≡ true → is_start (event c a i) ≡ false
           → GoesOn (t.stations i) (put t.stations k x i)
-      on i y e (inl ik) =
-          let ev : event c a i ≡ starts = rw (named, eq-eqb i k ik) starts_it in
-          contradiction (is_start (event c a i)) (ap is_start ev) e
-      on i y e (inr nk) = same_goes_on (t.stations i) (put t.stations k x i) (put_other t.stations k x i nk) y
+      on i = put_cases (λ s. works s.phase ≡ true → is_start (event c a i) ≡ false → GoesOn (t.stations i) s) t.stations k x i
+          (λ ik _ e. let ev : event c a i ≡ starts = rw (named, eq-eqb i k ik) starts_it in cc (ap is_start ev))
+          (λ _ y _. same_goes_on (t.stations i) (t.stations i) refl y)
 
   -- begin starts an attempt and ends none
   pub begin_ends : (k : ℕ) → (t.stations k).phase ≡ idle → EndsOf (Begin k)
@@ -200,8 +177,8 @@ module _ {V C : Type 0} (apply : V → C → V) (t : Table V) (v : Invariant t.s
   change_ends k r c was (h, at_r, own, (d, drafted)) =
       none_end t.stations (adjusted change_hold (λ _. refl) k r h at_r mode was) (Change k r c) (answer apply (Change k r c) t)
       (adjusted_at_work change_hold (λ _. refl) k r h at_r mode was) refl
-      (λ i e. never is_over (Change k r c) (answer apply (Change k r c) t) refl refl i e)
-      (λ i e. never is_start (Change k r c) (answer apply (Change k r c) t) refl refl i e)
+      (λ i e. grind arith)
+      (λ i e. grind arith)
       (λ i w _. adjusted_goes_on change_hold (λ _. refl) k r h at_r mode was i w)
     where
       change_hold : Hold V → Hold V
@@ -217,8 +194,8 @@ module _ {V C : Type 0} (apply : V → C → V) (t : Table V) (v : Invariant t.s
       none_end t.stations (settle t.show mid) (Retire k r) (answer apply (Retire k r) t)
       (λ j w. settling_works mid t.next_stamp t.records t.show v' j ∙ adjusted_at_work retired (λ _. refl) k r h at_r
       refl was j w) refl
-      (λ i e. never is_over (Retire k r) (answer apply (Retire k r) t) refl refl i e)
-      (λ i e. never is_start (Retire k r) (answer apply (Retire k r) t) refl refl i e)
+      (λ i e. grind arith)
+      (λ i e. grind arith)
       (λ i w _. settled_goes_on t.stations mid t.next_stamp t.records t.show v'
       (adjusted_goes_on retired (λ _. refl) k r h at_r refl was) i w)
     where
@@ -227,29 +204,21 @@ module _ {V C : Type 0} (apply : V → C → V) (t : Table V) (v : Invariant t.s
 
       v' : Invariant mid t.next_stamp t.records
       v' = put_keeps v k (with_hand (t.stations k) (adjust r retired (t.stations k).hand))
-          (adjusted_adds_nothing retired (λ _. refl) (t.stations k) r h at_r refl (λ x. contradiction false x refl) (rw was))
-
-  -- the stations with k idle keep the invariants
-  idle_keeps : (s : Stations V) → Invariant s t.next_stamp t.records → (k : ℕ)
-      → Invariant (put s k idle_station) t.next_stamp t.records
-  idle_keeps s w k = put_keeps w k idle_station
-      (emptied_adds_nothing (s k) idle_station refl refl (λ q. contradiction true refl q))
+          (adjusted_adds_nothing retired (λ _. refl) (t.stations k) r h at_r refl (λ x. cc) (rw was))
 
   -- commit ends the attempt that it commits, and no other
   pub commit_ends : (k : ℕ) → (t.stations k).phase ≡ running → bonds t.stations k ≡ 0 → EndsOf (Commit k)
   commit_ends k was unbound =
       record {
         out = λ _. false;
-        closed = λ i j r h k e _ _ _ _. contradiction false e refl;
-        ended = λ i e. contradiction false e refl;
-        only = λ j w n. inl
-            (commits_it j w (sym (settling_works mid t.next_stamp t.records show' v' j) ∙ n) (cases_eq j k));
-        younger = λ i e. contradiction false e refl;
-        free = λ i e. by i e (cases_eq i k);
-        over = λ i e. settling_works mid t.next_stamp t.records show' v' i ∙ over_at i e (cases_eq i k);
-        starts_from_rest = λ i e. never is_start (Commit k) (Committed (suc t.commits)) refl refl i e;
-        goes_on = λ i w _. settled_goes_on t.stations mid t.next_stamp t.records show' v' (λ i w. on i w (cases_eq i k))
-            i w;
+        closed = λ i j r h k e _ _ _ _. cc;
+        ended = λ i e. cc;
+        only = λ j w n. inl (grind (arith, settling_works mid t.next_stamp t.records show' v' j));
+        younger = λ i e. cc;
+        free = λ i e. grind (arith, nat_tests);
+        over = λ i e. grind (arith, settling_works mid t.next_stamp t.records show' v' i);
+        starts_from_rest = λ i e. grind arith;
+        goes_on = λ i w _. settled_goes_on t.stations mid t.next_stamp t.records show' v' (idle_goes_on t.stations k) i w;
       }
     where
       mid : Stations V
@@ -259,27 +228,7 @@ module _ {V C : Type 0} (apply : V → C → V) (t : Table V) (v : Invariant t.s
       show' = seen (t.stations k).hand t.show
 
       v' : Invariant mid t.next_stamp t.records
-      v' = idle_keeps t.stations v k
-
-      commits_it : (j : ℕ) → works (t.stations j).phase ≡ true → works (mid j).phase ≡ false → (j ≡ k) ⊎ (j ≡ k → ⊥)
-          → is_commit {V = V} {C = C} (cond (eqb j k) commits nothing) ≡ true
-      commits_it j w n (inl jk) = rw (eq-eqb j k jk)
-      commits_it j w n (inr nk) = contradiction (works (t.stations j).phase) w
-          (rw (put_other t.stations k idle_station j nk) at n)
-
-      by : (i : ℕ) → is_commit {V = V} {C = C} (cond (eqb i k) commits nothing) ≡ true → (i ≡ k) ⊎ (i ≡ k → ⊥)
-          → (works (t.stations i).phase ≡ true) × (bonds t.stations i ≡ 0)
-      by i e (inl ik) = rw ik (rw was, unbound)
-      by i e (inr nk) = contradiction false (rw (ne_eqb i k nk) at e) refl
-
-      over_at : (i : ℕ) → is_over {V = V} {C = C} (cond (eqb i k) commits nothing) ≡ true → (i ≡ k) ⊎ (i ≡ k → ⊥)
-          → works (mid i).phase ≡ false
-      over_at i e (inl ik) = rw (ik, put_same t.stations k idle_station)
-      over_at i e (inr nk) = contradiction false (rw (ne_eqb i k nk) at e) refl
-
-      on : (i : ℕ) → works (mid i).phase ≡ true → (i ≡ k) ⊎ (i ≡ k → ⊥) → GoesOn (t.stations i) (mid i)
-      on i w (inl ik) = contradiction false (rw (ik, put_same t.stations k idle_station) at w) refl
-      on i w (inr nk) = same_goes_on (t.stations i) (mid i) (put_other t.stations k idle_station i nk) w
+      v' = idle_keeps v k
 
   -- A widened set is wounded, station k is put as x, and all is settled.
   module _ (c : Call C) (a : Answer V) (no_commit : is_commit (told c a) ≡ false) (no_start : is_start (told c a) ≡ false)
@@ -305,14 +254,12 @@ module _ {V C : Type 0} (apply : V → C → V) (t : Table V) (v : Invariant t.s
         record {
           out = members;
           closed = closed_under_younger_holders v first;
-          ended = λ i e. settling_works mid t.next_stamp t.records t.show v' i ∙ rests i e (cases_eq i k);
-          only = λ j w n. inr
-              (only_members j w (sym (settling_works mid t.next_stamp t.records t.show v' j) ∙ n) (cases_eq j k));
+          ended = λ i e. grind (arith, nat_tests, ends_k i, wounded_rests members t.stations i, settles i);
+          only = λ j w n. inr (grind (arith, nat_tests, only_k, spared_same members t.stations j, settles j));
           younger = young;
-          free = λ i e. never is_commit c a refl no_commit i e;
-          over = λ i e. let p = over_k i e in settling_works mid t.next_stamp t.records t.show v' i ∙ rw
-              (p.0, put_same after_wounding k x) p.1;
-          starts_from_rest = λ i e. never is_start c a refl no_start i e;
+          free = λ i e. grind arith;
+          over = λ i e. grind (arith, nat_tests, over_k i e, settles i);
+          starts_from_rest = λ i e. grind arith;
           goes_on = λ i w _. settled_goes_on t.stations mid t.next_stamp t.records t.show v'
               (λ i w. on i w (cases_eq i k)) i w;
         }
@@ -320,19 +267,8 @@ module _ {V C : Type 0} (apply : V → C → V) (t : Table V) (v : Invariant t.s
         after_wounding : Stations V
         after_wounding = wound (widen t.stations first) t.stations
 
-        rests : (i : ℕ) → members i ≡ true → (i ≡ k) ⊎ (i ≡ k → ⊥) → works (mid i).phase ≡ false
-        rests i e (inl ik) = rw (ik, put_same after_wounding k x) (ends_k i ik e)
-        rests i e (inr nk) = rw (put_other after_wounding k x i nk) (wounded_rests members t.stations i e)
-
-        only_members : (j : ℕ) → works (t.stations j).phase ≡ true → works (mid j).phase ≡ false → (j ≡ k) ⊎ (j ≡ k → ⊥)
-            → members j ≡ true
-        only_members j w n (inl jk) = rw jk (only_k (rw jk at w) (rw (jk, put_same after_wounding k x) at n))
-        only_members j w n (inr nk) = go (members j) refl
-          where
-            go : (b : Bool) → members j ≡ b → b ≡ true
-            go true e = refl
-            go false e = contradiction (works (t.stations j).phase) w
-                (rw (put_other after_wounding k x j nk, spared_same members t.stations j e) at n)
+        settles : (i : ℕ) → works (settle t.show mid i).phase ≡ works (mid i).phase
+        settles = settling_works mid t.next_stamp t.records t.show v'
 
         on : (i : ℕ) → works (mid i).phase ≡ true → (i ≡ k) ⊎ (i ≡ k → ⊥) → GoesOn (t.stations i) (mid i)
         on i w (inl ik) = rw (ik, put_same after_wounding k x) (on_k (rw (ik, put_same after_wounding k x) at w))
@@ -348,11 +284,11 @@ module _ {V C : Type 0} (apply : V → C → V) (t : Table V) (v : Invariant t.s
   take_ends k r m was inside lacks free =
       wounding_ends (Take k r m) (answer apply (Take k r m) t) (tells_none is_commit refl refl) (tells_none is_start refl refl)
       first (yielding_at_work v k r m) k new (take_keeps v k r m was inside lacks free)
-      (λ i ik e. contradiction (widen t.stations first k) (rw ik at e) (taker_spared t.stations k r m))
-      (λ _ n. contradiction true refl n)
+      (λ i ik e. cc (rw ik at e, taker_spared t.stations k r m))
+      (λ _ n. cc)
       (λ i e. inr (k, rw was, taker_older t.stations k r m i e))
       (λ _. rw taker_same (modes_go_on (t.stations k) (waiting_station (t.stations k) r m) (rw was) refl (λ _. refl)))
-      (λ i e. never is_over (Take k r m) (answer apply (Take k r m) t) refl (tells_none is_over refl refl) i e)
+      (λ i e. grind arith)
     where
       first : ℕ → Bool
       first = must_yield t.stations k r m
@@ -365,76 +301,45 @@ module _ {V C : Type 0} (apply : V → C → V) (t : Table V) (v : Invariant t.s
 
       tells_none : (test : Event V C → Bool) → test (gets r m) ≡ false → test (waits r m) ≡ false
           → test (told (Take k r m) (answer apply (Take k r m) t)) ≡ false
-      tells_none test g w = by (is_waiting ((after apply (Take k r m) t).stations k).phase)
-        where
-          by : (b : Bool)
-              → test (taken_by r m (Taken (cond b Waits Granted) (count_below 16 (wounded_by_take t.stations k r m)))) ≡ false
-          by true = w
-          by false = g
+      tells_none test g w = grind arith
 
   -- a station at work that gives up ends its attempt and those of its followers
   give_up_at_work_ends : (k : ℕ) → works (t.stations k).phase ≡ true → (n : ℕ)
       → Ends {C = C} t.stations (settle t.show (put (wound (widen t.stations (λ j. eqb j k)) t.stations) k idle_station)) (GiveUp k) (Number n)
   give_up_at_work_ends k was n =
       wounding_ends (GiveUp k) (Number n) refl refl (λ j. eqb j k) base k idle_station
-      (idle_keeps (wound (widen t.stations (λ j. eqb j k)) t.stations)
-      (wounding_keeps v (widen t.stations (λ j. eqb j k)) (members_at_work v (λ j. eqb j k) base)) k)
+      (idle_keeps (wounding_keeps v (widen t.stations (λ j. eqb j k)) (members_at_work v (λ j. eqb j k) base)) k)
       (λ _ _ _. refl) (λ _ _. widened_has_first t.stations (λ j. eqb j k) k (eqb_refl k)) (λ i e. young i e (cases_eq i k))
-      (λ e. contradiction false e refl) (λ i e. (caller_over i e (cases_eq i k), refl))
+      (λ e. cc) (λ i e. (grind (arith, nat_tests), refl))
     where
       base : (i : ℕ) → eqb i k ≡ true → works (t.stations i).phase ≡ true
       base i q = rw (eqb-true i k q) was
 
-      caller_over : (i : ℕ) → is_over {V = V} {C = C} (cond (eqb i k) ends nothing) ≡ true → (i ≡ k) ⊎ (i ≡ k → ⊥) → i ≡ k
-      caller_over i e (inl ik) = ik
-      caller_over i e (inr nk) = contradiction false (rw (ne_eqb i k nk) at e) refl
-
       young : (i : ℕ) → widen t.stations (λ j. eqb j k) i ≡ true → (i ≡ k) ⊎ (i ≡ k → ⊥)
           → (eqb i k ≡ true) ⊎ ((j : ℕ) × (works (t.stations j).phase ≡ true) × ((t.stations j).stamp < (t.stations i).stamp))
       young i e (inl ik) = inl (eq-eqb i k ik)
-      young i e (inr nk) = inr (k, was, by (cases_eq (t.stations i).stamp (t.stations k).stamp))
+      young i e (inr nk) = inr (k, was, by)
         where
-          by : ((t.stations i).stamp ≡ (t.stations k).stamp) ⊎ ((t.stations i).stamp ≡ (t.stations k).stamp → ⊥)
-              → (t.stations k).stamp < (t.stations i).stamp
-          by (inl q) = absurd (nk (v.apart i k
-              (works_not_idle (t.stations i).phase (members_at_work v (λ j. eqb j k) base i e))
-              (works_not_idle (t.stations k).phase was) q))
-          by (inr q) = omega
-              (arith, members_no_older t.stations (λ j. eqb j k) (t.stations k).stamp (λ j x. rw (eqb-true j k x) (omega arith)) i e)
+          by : (t.stations k).stamp < (t.stations i).stamp
+          by = grind (
+            arith,
+            cases_eq (t.stations i).stamp (t.stations k).stamp,
+            v.apart i k (works_not_idle (t.stations i).phase (members_at_work v (λ j. eqb j k) base i e))
+                (works_not_idle (t.stations k).phase was),
+            members_no_older t.stations (λ j. eqb j k) (t.stations k).stamp (λ j x. rw (eqb-true j k x) (omega arith)) i e,
+          )
 
   -- a wounded station that gives up ends nobody's attempt: its own has ended
   give_up_wounded_ends : (k : ℕ) → (t.stations k).phase ≡ wounded → (n : ℕ)
       → Ends {C = C} t.stations (put t.stations k idle_station) (GiveUp k) (Number n)
   give_up_wounded_ends k was n =
-      none_end t.stations (put t.stations k idle_station) (GiveUp k) (Number n) (λ j w. still j w (cases_eq j k)) refl
-      (λ i e. over_at i e (cases_eq i k))
-      (λ i e. never is_start (GiveUp k) (Number n) refl refl i e) (λ i w _. on i w (cases_eq i k))
-    where
-      over_at : (i : ℕ) → is_over {V = V} {C = C} (cond (eqb i k) ends nothing) ≡ true → (i ≡ k) ⊎ (i ≡ k → ⊥)
-          → works (put t.stations k idle_station i).phase ≡ false
-      over_at i e (inl ik) = rw (ik, put_same t.stations k idle_station)
-      over_at i e (inr nk) = contradiction false (rw (ne_eqb i k nk) at e) refl
-
-      still : (j : ℕ) → works (t.stations j).phase ≡ true → (j ≡ k) ⊎ (j ≡ k → ⊥)
-          → works (put t.stations k idle_station j).phase ≡ true
-      still j w (inl jk) = contradiction false (rw (jk, was) at w) refl
-      still j w (inr nk) = rw (put_other t.stations k idle_station j nk) w
-
-      on : (i : ℕ) → works (put t.stations k idle_station i).phase ≡ true → (i ≡ k) ⊎ (i ≡ k → ⊥)
-          → GoesOn (t.stations i) (put t.stations k idle_station i)
-      on i w (inl ik) = contradiction false (rw (ik, put_same t.stations k idle_station) at w) refl
-      on i w (inr nk) = same_goes_on (t.stations i) (put t.stations k idle_station i)
-          (put_other t.stations k idle_station i nk) w
+      none_end t.stations (put t.stations k idle_station) (GiveUp k) (Number n) (λ j w. grind (arith, nat_tests)) refl
+      (λ i e. grind arith) (λ i e. grind arith) (λ i w _. idle_goes_on t.stations k i w)
 
   -- give up ends its own attempt and those of the followers
   pub give_up_ends : (k : ℕ) → is_idle (t.stations k).phase ≡ false → EndsOf (GiveUp k)
   unfolding wounded_by_give_up
-  give_up_ends k busy = go (t.stations k).phase refl
-    where
-      go : (p : Phase) → (t.stations k).phase ≡ p → EndsOf (GiveUp k)
-      go idle q = contradiction true refl (rw q at busy)
-      go running q = rw q
-          (give_up_at_work_ends k (rw q) (count_below 16 (λ j. not (eqb j k) && widen t.stations (λ i. eqb i k) j)))
-      go wounded q = rw q (give_up_wounded_ends k q 0)
-      go (waiting r m) q = rw q
-          (give_up_at_work_ends k (rw q) (count_below 16 (λ j. not (eqb j k) && widen t.stations (λ i. eqb i k) j)))
+  give_up_ends k busy = elim (cases_Bool (is_wounded (t.stations k).phase)) [
+    | inl q ↦ rw q (give_up_wounded_ends k (grind arith) _)
+    | inr q ↦ rw q (give_up_at_work_ends k (grind arith) _)
+  ]

@@ -1,6 +1,7 @@
 -- The calls that free something, and so settle, keep table and observation together: take, retire, commit and give up.
-use Rattle.std.proofs.Common.{◌≡◌, ℕ, suc, ◌<◌, Bool, true, false, cond, not, ◌&&◌, eqb, ◌⊎◌, [], length, is_some, Some, None, Option, sym, refl, ap, ◌∙◌, subst, inl, inr}
-use Rattle.std.proofs.lemmas.Bool.{eqb-true, ne_eqb, cases_eq}
+use Rattle.std.proofs.Common.{◌≡◌, ℕ, suc, ◌<◌, Bool, true, false, cond, eqb, ◌⊎◌, [], length, is_some, Some, None, Option, sym, refl, ap, ◌∙◌, subst, inl, inr, arith}
+use Rattle.std.proofs.lemmas.Bool.{eqb-true, ne_eqb, cases_eq, cases_Bool}
+use Rattle.std.proofs.lemmas.Bool.Decides.{nat_tests}
 use Rattle.rules.specs.declared.Mode.{Mode}
 use Rattle.rules.specs.declared.State.TheVariants.{Running, Waiting}
 use Rattle.rules.specs.declared.Outcome.TheVariants.{Granted, Waits}
@@ -9,21 +10,21 @@ use Rattle.rules.specs.declared.Call.TheVariants.{Take, Retire, Commit, GiveUp}
 use Rattle.rules.specs.declared.Answer.{Answer}
 use Rattle.rules.specs.declared.Answer.TheVariants.{Number, Taken, Committed}
 use Rattle.rules.specs.Searches.{count_below}
-use Rattle.rules.specs.Tables.{Hold, Phase, idle, running, wounded, waiting, Station, Stations, Table, owned, is_idle, is_waiting, works, hold_on, draft_in, idle_station, waiting_station, with_hand, put, with_stations}
+use Rattle.rules.specs.Tables.{Hold, Phase, idle, running, wounded, waiting, Station, Stations, Table, owned, is_idle, is_waiting, works, hold_on, draft_in, idle_station, waiting_station, with_hand, put, with_stations, is_wounded}
 use Rattle.rules.specs.Operations.{or_else, seen, bonds, widen, wound, settle, must_yield, wounded_by_take, wounded_by_give_up, adjust, retired}
 use Rattle.rules.specs.Calls.{state_of, after, answer}
-use Rattle.rules.proofs.Searches.{contradiction, none_not_some, eqb_refl}
+use Rattle.rules.proofs.Searches.{eqb_refl}
 use Rattle.rules.proofs.Stations.{put_cases, put_same, put_other}
 use Rattle.rules.proofs.Widening.{widened_has_first}
-use Rattle.law.specs.Observer.{View, turned, Event, nothing, commits, ends, waits, taken_by, told, event, is_commit, Attempt, after_event, with_grant, continued, Observation, observe}
+use Rattle.law.specs.Observer.{View, turned, nothing, commits, ends, waits, taken_by, told, event, is_commit, Attempt, after_event, with_grant, continued, Observation, observe}
 use Rattle.law.specs.Alone.{left, Agrees, all_left}
 use Rattle.law.proofs.Hands.{aspect_adjusted}
-use Rattle.law.proofs.Invariants.{Invariant, emptied_adds_nothing, put_keeps, adjusted_adds_nothing, put_leaves_blocked}
+use Rattle.law.proofs.Invariants.{Invariant, put_keeps, adjusted_adds_nothing, put_leaves_blocked, idle_keeps}
 use Rattle.law.proofs.Wounding.{closed_under_younger_holders, members_at_work, at_work_spared, spared_same, wounded_empty, wounding_keeps, yielding_at_work, take_keeps}
 use Rattle.rules.proofs.Spared.{taker_spared}
 use Rattle.law.proofs.SerialOrder.{Replays, replays_if_drafts_same, replays_if_empty_put, replays_if_closed_set_wounded, before_free_is_plotted, replays_if_other_commits}
-use Rattle.law.proofs.Consistency.{held_mode, Matches, Settled, settled, settled_untold, Tells, Consistent, consistent_step}
-use Rattle.law.proofs.PlainCalls.{silent, untold, carried_on, Following, others_match}
+use Rattle.law.proofs.Consistency.{held_mode, Matches, Settled, settled, settled_untold, Tells, Consistent, consistent_step, carried_on, MatchesAfter}
+use Rattle.law.proofs.PlainCalls.{silent, untold, Following, others_match}
 
 module _ {V C : Type 0} (apply : V → C → V) (opening : ℕ → V) (t : Table V) (o : Observation V C)
     (g : Consistent apply opening t o) (w : View V C) (tells : Tells w t) where
@@ -37,9 +38,8 @@ module _ {V C : Type 0} (apply : V → C → V) (opening : ℕ → V) (t : Table
   settling_consistent c a mid w' tells' e none v k =
       consistent_step apply opening t (with_stations t (settle t.show mid)) o c a w w' tells tells' e g.invariant
       s.invariant g.next_positive s.blocked
-      (λ i x. settled_untold apply (settle t.show mid) t.show i (suc o.started) (event c a i) (o.attempts i)
-      (mid i).phase (t.stations i).phase (state_of (settle t.show mid i).phase)
-      (k i (sym (s.same_work i) ∙ x)).0 (k i (sym (s.same_work i) ∙ x)).1 (s.matches i x))
+      (λ i x. let q = k i (sym (s.same_work i) ∙ x) in
+      settled_untold apply t.stations mid (settle t.show mid) t.show o c a i q.0 q.1 (s.matches i x))
       (rw none g.answers_agree) (rw none g.values_left) (rw none g.commits_counted)
     where
       s : Settled apply mid (settle t.show mid) t.next_stamp t.records t.show o.attempts
@@ -52,7 +52,7 @@ module _ {V C : Type 0} (apply : V → C → V) (opening : ℕ → V) (t : Table
   retire_consistent k r was (h, at_r, own) w' tells' e =
       settling_consistent (Retire k r) (answer apply (Retire k r) t) mid w' tells' e refl
       (put_keeps g.invariant k new
-      (adjusted_adds_nothing retired (λ _. refl) (t.stations k) r h at_r refl (λ x. contradiction false x refl) (rw was)))
+      (adjusted_adds_nothing retired (λ _. refl) (t.stations k) r h at_r refl (λ x. cc) (rw was)))
       (λ i _. (phase i, silent (Retire k r) (answer apply (Retire k r) t) i refl, matches i))
     where
       new : Station V
@@ -62,10 +62,10 @@ module _ {V C : Type 0} (apply : V → C → V) (opening : ℕ → V) (t : Table
       mid = put t.stations k new
 
       phase : (i : ℕ) → (mid i).phase ≡ (t.stations i).phase
-      phase i = put_cases (λ s. s.phase ≡ (t.stations i).phase) t.stations k new i (λ q. rw q) (λ _. refl)
+      phase i = grind (arith, nat_tests)
 
       stamps : (i : ℕ) → (mid i).stamp ≡ (t.stations i).stamp
-      stamps i = put_cases (λ s. s.stamp ≡ (t.stations i).stamp) t.stations k new i (λ q. rw q) (λ _. refl)
+      stamps i = grind (arith, nat_tests)
 
       -- retiring leaves every aspect of a hold but its stage
       aspect_kept : {X : Type 0} (aspect : Option (Hold V) → X) → aspect (Some (retired h)) ≡ aspect (Some h) → (j q : ℕ)
@@ -74,17 +74,12 @@ module _ {V C : Type 0} (apply : V → C → V) (opening : ℕ → V) (t : Table
           put_cases (λ s. aspect (hold_on q s.hand) ≡ aspect (hold_on q (t.stations j).hand)) t.stations k new j
           (λ jk. rw jk (aspect_adjusted retired (λ _. refl) r aspect (t.stations k).hand h at_r same q)) (λ _. refl)
 
-      still_held : (x y : Option (Hold V)) (h : Hold V) → is_some y ≡ is_some x → x ≡ Some h → (h' : Hold V) × (y ≡ Some h')
-      still_held x None h a b = contradiction false (a ∙ ap is_some b) refl
-      still_held x (Some h') h a b = (h', refl)
-
       matches : (i : ℕ) → Matches apply mid t.show i (o.attempts i)
       matches i =
           record {
             replays = replays_if_drafts_same apply t.stations mid t.show i (o.attempts i).entries stamps
                 (aspect_kept draft_in refl)
-                (λ q x f. still_held (hold_on q (t.stations i).hand) (hold_on q (mid i).hand) x (aspect_kept is_some refl i q)
-                f) (g.matches i).replays;
+                (λ q x f. grind (arith, aspect_kept is_some refl i q)) (g.matches i).replays;
             holds_observed = λ q. (g.matches i).holds_observed q ∙ sym (aspect_kept held_mode refl i q);
             wait_observed = λ q m x. (g.matches i).wait_observed q m (sym (phase i) ∙ x);
           }
@@ -104,14 +99,13 @@ module _ {V C : Type 0} (apply : V → C → V) (opening : ℕ → V) (t : Table
       show' = seen (t.stations k).hand t.show
 
       v : Invariant mid t.next_stamp t.records
-      v = put_keeps g.invariant k idle_station
-          (emptied_adds_nothing (t.stations k) idle_station refl refl (λ q. contradiction true refl q))
+      v = idle_keeps g.invariant k
 
       rests : (i : ℕ) → i ≡ k → works (mid i).phase ≡ false
       rests i ik = rw (ik, put_same t.stations k idle_station)
 
       matches : (i : ℕ) → works (mid i).phase ≡ true → (i ≡ k) ⊎ (i ≡ k → ⊥) → Matches apply mid show' i (o.attempts i)
-      matches i x (inl ik) = contradiction (works (mid i).phase) x (rests i ik)
+      matches i x (inl ik) = cc (rests i ik)
       matches i x (inr nk) =
           carried_on apply t.stations mid t.show show' i (o.attempts i) (put_other t.stations k idle_station i nk)
           (replays_if_other_commits apply t.stations t.next_stamp t.records g.invariant t.show k free i
@@ -121,11 +115,10 @@ module _ {V C : Type 0} (apply : V → C → V) (opening : ℕ → V) (t : Table
       s = settled apply mid t.next_stamp t.records v show' o.attempts (λ i x. matches i x (cases_eq i k))
 
       matches_after : (i : ℕ) → works (settle show' mid i).phase ≡ true → (i ≡ k) ⊎ (i ≡ k → ⊥)
-          → Matches apply (settle show' mid) show' i (continued (suc o.started) (state_of (t.stations i).phase) (state_of (settle show' mid i).phase) (event (Commit k) (Committed (suc t.commits)) i) (o.attempts i))
-      matches_after i x (inl ik) = contradiction (works (mid i).phase) (sym (s.same_work i) ∙ x) (rests i ik)
+          → MatchesAfter apply t.stations (settle show' mid) show' o (Commit k) (Committed (suc t.commits)) i
+      matches_after i x (inl ik) = cc (sym (s.same_work i) ∙ x, rests i ik)
       matches_after i x (inr nk) =
-          settled_untold apply (settle show' mid) show' i (suc o.started) (event (Commit k) (Committed (suc t.commits)) i)
-          (o.attempts i) (mid i).phase (t.stations i).phase (state_of (settle show' mid i).phase)
+          settled_untold apply t.stations mid (settle show' mid) show' o (Commit k) (Committed (suc t.commits)) i
           (rw (put_other t.stations k idle_station i nk)) (untold k i commits nk) (s.matches i x)
 
       -- the values that the attempts committed so far leave
@@ -157,8 +150,7 @@ module _ {V C : Type 0} (apply : V → C → V) (opening : ℕ → V) (t : Table
         → Replays apply wounded_stations t.show i (o.attempts i).entries
     spared_replays i e =
         replays_if_closed_set_wounded apply t.stations t.show (widen t.stations first) i (o.attempts i).entries e
-        (λ j r h k mj fj x fi l. contradiction (widen t.stations first i)
-        (closed_under_younger_holders g.invariant first i j r h k mj fj x fi l) e) (g.matches i).replays
+        (λ j r h k mj fj x fi l. cc (closed_under_younger_holders g.invariant first i j r h k mj fj x fi l)) (g.matches i).replays
 
     -- whoever is spared matches as before
     spared_matches : (i : ℕ) → widen t.stations first i ≡ false → Matches apply wounded_stations t.show i (o.attempts i)
@@ -172,18 +164,17 @@ module _ {V C : Type 0} (apply : V → C → V) (opening : ℕ → V) (t : Table
   give_up_wounded k was n w' tells' e =
       consistent_step apply opening t (with_stations t (put t.stations k idle_station)) o (GiveUp k) (Number n) w w' tells
       tells' e g.invariant
-      (put_keeps g.invariant k idle_station
-      (emptied_adds_nothing (t.stations k) idle_station refl refl (λ q. contradiction true refl q))) g.next_positive
+      (idle_keeps g.invariant k) g.next_positive
       (put_leaves_blocked t.stations k idle_station (rw was) refl
-      (λ r h f _. none_not_some (hold_on r (t.stations k).hand) h (ap (hold_on r) none) f) g.blocked)
+      (λ r h f _. cc (ap (hold_on r) none)) g.blocked)
       (λ i x. matches i x (cases_eq i k)) g.answers_agree g.values_left g.commits_counted
     where
       none : (t.stations k).hand ≡ []
       none = g.invariant.empty_handed k (rw was)
 
       matches : (i : ℕ) → works (put t.stations k idle_station i).phase ≡ true → (i ≡ k) ⊎ (i ≡ k → ⊥)
-          → Matches apply (put t.stations k idle_station) t.show i (continued (suc o.started) (state_of (t.stations i).phase) (state_of (put t.stations k idle_station i).phase) (event (GiveUp k) (Number n) i) (o.attempts i))
-      matches i x (inl ik) = contradiction false (rw (ik, put_same t.stations k idle_station) at x) refl
+          → MatchesAfter apply t.stations (put t.stations k idle_station) t.show o (GiveUp k) (Number n) i
+      matches i x (inl ik) = cc (rw (ik, put_same t.stations k idle_station) at x)
       matches i x (inr nk) = others_match apply opening t o g w tells (GiveUp k) (Number n) k idle_station none refl i nk
           (untold k i ends nk)
 
@@ -194,8 +185,7 @@ module _ {V C : Type 0} (apply : V → C → V) (opening : ℕ → V) (t : Table
       → Consistent apply opening (with_stations t (settle t.show (put (wound (widen t.stations (λ j. eqb j k)) t.stations) k idle_station))) (observe w (GiveUp k) w' o)
   give_up_at_work k was n w' tells' e =
       settling_consistent (GiveUp k) (Number n) mid w' tells' e refl
-      (put_keeps (wounded_invariant (λ j. eqb j k) base) k idle_station
-      (emptied_adds_nothing (after_wounding k) idle_station refl refl (λ q. contradiction true refl q)))
+      (idle_keeps (wounded_invariant (λ j. eqb j k) base) k)
       (λ i x. let q = spared i x (cases_eq i k) in (
         rw
             (same i q.0, spared_same (widen t.stations (λ j. eqb j k)) t.stations i q.1),
@@ -217,7 +207,7 @@ module _ {V C : Type 0} (apply : V → C → V) (opening : ℕ → V) (t : Table
 
       spared : (i : ℕ) → works (mid i).phase ≡ true → (i ≡ k) ⊎ (i ≡ k → ⊥)
           → (i ≡ k → ⊥) × (widen t.stations (λ j. eqb j k) i ≡ false)
-      spared i x (inl ik) = contradiction false (rw (ik, put_same after_wounding k idle_station) at x) refl
+      spared i x (inl ik) = cc (rw (ik, put_same after_wounding k idle_station) at x)
       spared i x (inr nk) = (nk, at_work_spared (widen t.stations (λ j. eqb j k)) t.stations i (rw (same i nk) at x))
 
       matches : (i : ℕ) → (i ≡ k → ⊥) → widen t.stations (λ j. eqb j k) i ≡ false
@@ -232,27 +222,20 @@ module _ {V C : Type 0} (apply : V → C → V) (opening : ℕ → V) (t : Table
   -- give up keeps table and observation together
   pub give_up_consistent : (k : ℕ) → is_idle (t.stations k).phase ≡ false → Following apply opening t o g w tells (GiveUp k)
   unfolding wounded_by_give_up
-  give_up_consistent k busy w' tells' e = go (t.stations k).phase refl tells' e
-    where
-      count : ℕ
-      count = count_below 16 (λ j. not (eqb j k) && widen t.stations (λ i. eqb i k) j)
-
-      go : (p : Phase) → (t.stations k).phase ≡ p → Tells w' (after apply (GiveUp k) t) → w (GiveUp k) ≡ answer apply (GiveUp k) t
-          → Consistent apply opening (after apply (GiveUp k) t) (observe w (GiveUp k) w' o)
-      go idle q x y = contradiction true refl (rw q at busy)
-      go running q x y = rw q (give_up_at_work k (rw q) count w' (rw q at x) (rw q at y))
-      go wounded q x y = rw q (give_up_wounded k q 0 w' (rw q at x) (rw q at y))
-      go (waiting r m) q x y = rw q (give_up_at_work k (rw q) count w' (rw q at x) (rw q at y))
+  give_up_consistent k busy w' tells' e = elim (cases_Bool (is_wounded (t.stations k).phase)) [
+    | inl q ↦ rw q (give_up_wounded k (grind arith) _ w' (rw q at tells') (rw q at e))
+    | inr q ↦ rw q (give_up_at_work k (grind arith) _ w' (rw q at tells') (rw q at e))
+  ]
 
   -- the taker's attempt matches after settling, by the answer that it got
   taker_matches : (u : Stations V) (show : ℕ → V) (k n : ℕ) (a : Attempt V C) (r : ℕ) (m : Mode) (count : ℕ) (p : Phase)
       → (u k).phase ≡ p → works p ≡ true
       → Matches apply u show k (with_grant (cond (turned Waiting (state_of p)) (Some (r, m)) None) (after_event n (waits r m) a))
       → Matches apply u show k (continued n Running (state_of p) (taken_by r m (Taken (cond (is_waiting p) Waits Granted) count)) a)
-  taker_matches u show k n a r m count idle e x y = contradiction false x refl
+  taker_matches u show k n a r m count idle e x y = cc
   taker_matches u show k n a r m count running e x y =
-      record { replays = y.replays; holds_observed = y.holds_observed; wait_observed = λ q mq z. contradiction true refl (cc) }
-  taker_matches u show k n a r m count wounded e x y = contradiction false x refl
+      record { replays = y.replays; holds_observed = y.holds_observed; wait_observed = λ q mq z. cc }
+  taker_matches u show k n a r m count wounded e x y = cc
   taker_matches u show k n a r m count (waiting q mq) e x y = y
 
   -- take keeps table and observation together
@@ -292,12 +275,7 @@ module _ {V C : Type 0} (apply : V → C → V) (opening : ℕ → V) (t : Table
 
       -- a take commits nothing
       silent_commit : is_commit {V = V} {C = C} (taken_by r m (answer apply (Take k r m) t)) ≡ false
-      silent_commit = by (is_waiting (settle t.show mid k).phase)
-        where
-          by : (b : Bool)
-              → is_commit {V = V} {C = C} (taken_by r m (Taken (cond b Waits Granted) (count_below 16 members))) ≡ false
-          by true = refl
-          by false = refl
+      silent_commit = grind arith
 
       v : Invariant mid t.next_stamp t.records
       v = take_keeps g.invariant k r m was inside lacks free
@@ -310,10 +288,10 @@ module _ {V C : Type 0} (apply : V → C → V) (opening : ℕ → V) (t : Table
       taker_waits = rw (put_same after_wounding k new)
 
       hands : (i : ℕ) → (mid i).hand ≡ (after_wounding i).hand
-      hands i = put_cases (λ s. s.hand ≡ (after_wounding i).hand) after_wounding k new i (λ q. rw q) (λ _. refl)
+      hands i = grind (arith, nat_tests)
 
       stamps : (i : ℕ) → (mid i).stamp ≡ (after_wounding i).stamp
-      stamps i = put_cases (λ s. s.stamp ≡ (after_wounding i).stamp) after_wounding k new i (λ q. rw q) (λ _. refl)
+      stamps i = grind (arith, nat_tests)
 
       replays : (i : ℕ) → members i ≡ false → Replays apply mid t.show i (o.attempts i).entries
       replays i mi = replays_if_drafts_same apply after_wounding mid t.show i (o.attempts i).entries stamps
@@ -333,7 +311,7 @@ module _ {V C : Type 0} (apply : V → C → V) (opening : ℕ → V) (t : Table
           (record {
             replays = replays k spared;
             holds_observed = λ q. rw (hands k) (taker.holds_observed q);
-            wait_observed = λ q mq y. (let z = taker_waits in let a : r ≡ q = cc in let b : m ≡ mq = cc in rw (a, b));
+            wait_observed = λ q mq y. grind (arith, taker_waits);
           })
 
       u : Stations V
@@ -342,22 +320,16 @@ module _ {V C : Type 0} (apply : V → C → V) (opening : ℕ → V) (t : Table
       s : Settled apply mid u t.next_stamp t.records t.show attempts
       s = settled apply mid t.next_stamp t.records v t.show attempts (λ i x. matches i x (cases_eq i k))
 
-      ev : ℕ → Event V C
-      ev i = event (Take k r m) (answer apply (Take k r m) t) i
-
       matches_after : (i : ℕ) → works (u i).phase ≡ true → (i ≡ k) ⊎ (i ≡ k → ⊥)
-          → Matches apply u t.show i (continued (suc o.started) (state_of (t.stations i).phase) (state_of (u i).phase) (ev i) (o.attempts i))
+          → MatchesAfter apply t.stations u t.show o (Take k r m) (answer apply (Take k r m) t) i
       matches_after i x (inr nk) =
           let as_before : attempts i ≡ o.attempts i = rw (ne_eqb i k nk) in
           let same : mid i ≡ t.stations i = put_other after_wounding k new i nk ∙ spared_same members t.stations i
           (other_spared i nk (sym (s.same_work i) ∙ x)) in
-          settled_untold apply u t.show i (suc o.started) (ev i) (o.attempts i) (mid i).phase (t.stations i).phase
-          (state_of (u i).phase) (rw same)
+          settled_untold apply t.stations mid u t.show o (Take k r m) (answer apply (Take k r m) t) i (rw same)
           (untold k i (told (Take k r m) (answer apply (Take k r m) t)) nk) (rw as_before at (s.matches i x))
       matches_after i x (inl ik) =
-          subst (λ (j : ℕ). Matches apply u t.show j
-          (continued (suc o.started) (state_of (t.stations j).phase) (state_of (u j).phase) (ev j) (o.attempts j)))
-          (sym ik) taker
+          subst (MatchesAfter apply t.stations u t.show o (Take k r m) (answer apply (Take k r m) t)) (sym ik) taker
         where
           at_work : works (u k).phase ≡ true
           at_work = rw ik at x
@@ -368,6 +340,6 @@ module _ {V C : Type 0} (apply : V → C → V) (opening : ℕ → V) (t : Table
           now : Matches apply u t.show k (with_grant (cond (turned Waiting (state_of (u k).phase)) (Some (r, m)) None) (after_event (suc o.started) (waits r m) (o.attempts k)))
           now = rw (taker_waits, attempt_waits) at (s.matches k at_work)
 
-          taker : Matches apply u t.show k (continued (suc o.started) (state_of (t.stations k).phase) (state_of (u k).phase) (ev k) (o.attempts k))
+          taker : MatchesAfter apply t.stations u t.show o (Take k r m) (answer apply (Take k r m) t) k
           taker = rw (was, eqb_refl k) (taker_matches u t.show k (suc o.started) (o.attempts k) r m
               (count_below 16 members) (u k).phase refl at_work now)

@@ -11,7 +11,7 @@ use Rattle.rules.specs.Searches.{any_below}
 use Rattle.rules.specs.Tables.{Phase, idle, running, wounded, waiting, Table, hold_mode, works, hold_on, conflicts, older}
 use Rattle.rules.specs.Operations.{bonds}
 use Rattle.rules.specs.Calls.{refusals, first_refusal}
-use Rattle.rules.proofs.Searches.{contradiction, any_below_none}
+use Rattle.rules.proofs.Searches.{any_below_none}
 use Rattle.law.specs.Observer.{View, working, state, stamp, at_work, older_than, oldest, names, event, is_commit}
 use Rattle.law.proofs.Hands.{nobody_binds_no_bonds, conflict_parts}
 use Rattle.law.proofs.Invariants.{Invariant, works_not_idle, waiting_works, holder_works, BlockedBy, Blocked}
@@ -61,9 +61,9 @@ module _ {V C : Type 0} {w : View V C} {t : Table V} (tells : Tells w t)
         older_blocks r m j (l, inr (md, q)) = nobody_older j (waiting_works (t.stations j).phase r md q) l
 
         go : (p : Phase) → (t.stations i).phase ≡ p → p ≡ running
-        go idle q = contradiction false (sym (ap works q) ∙ oldest_at_work) refl
+        go idle q = cc (sym (ap works q) ∙ oldest_at_work)
         go running q = refl
-        go wounded q = contradiction false (sym (ap works q) ∙ oldest_at_work) refl
+        go wounded q = cc (sym (ap works q) ∙ oldest_at_work)
         go (waiting r m) q = let b = blocked i r m q in absurd (older_blocks r m b.0 b.1)
 
     -- standing tells so

@@ -1,16 +1,17 @@
 -- The ordered part: predecessors are at work or committed, and commit first.
-use Rattle.std.proofs.Common.{◌≡◌, ℕ, zero, suc, ◌<◌, Bool, true, false, cond, ◌&&◌, ◌||◌, eqb, ◌⊎◌, List, [], ◌∷◌, Some, None, Option, sym, refl, ap, ◌∙◌, inl, inr}
-use Rattle.std.specs.List.{AllByRecursion}
-use Rattle.std.proofs.ByRecursion.{All-append, All-weaker}
-use Rattle.std.proofs.lemmas.Bool.{eqb-true, eq-eqb, both_ways, or_left, or_right, and_parts, and_from, ltb-true}
+use Rattle.std.proofs.Common.{◌≡◌, ℕ, zero, suc, ◌<◌, Bool, true, false, cond, ◌&&◌, ◌||◌, eqb, ◌⊎◌, List, [], ◌∷◌, Some, None, Option, sym, refl, ap, ◌∙◌, inl, inr, arith}
+use Rattle.std.specs.List.{All, AllByRecursion}
+use Rattle.std.proofs.lemmas.List.Elements.{recursion_from_All, All-nil, All-cons, All-append, All-weaker}
+use Rattle.std.proofs.lemmas.Bool.{eq-eqb, both_ways, or_left, or_right, and_parts, and_from, ltb-true, false_from_ne_true, cond_both}
+use Rattle.std.proofs.lemmas.Bool.Decides.{nat_tests}
 use Rattle.rules.specs.declared.Mode.{Mode}
-use Rattle.rules.specs.declared.Mode.TheVariants.{Shared, Exclusive}
+use Rattle.rules.specs.declared.Mode.TheVariants.{Exclusive}
 use Rattle.rules.specs.declared.Call.{Call}
 use Rattle.rules.specs.declared.Answer.{Answer}
 use Rattle.rules.specs.Tables.{Hold, Stations, Table, conflict, hold_mode, works, hold_on, conflicts}
 use Rattle.rules.specs.Operations.{bonds}
-use Rattle.rules.proofs.Searches.{contradiction, eqb_refl, any_below_from}
-use Rattle.law.specs.Observer.{View, state, at_work, older_than, caller, is_station, Event, nothing, starts, commits, ends, waits, gets, notes, told, event, is_commit, is_over, is_start, exclusively, Attempt, after_event, granted_of, with_grant, older_holders, predecessors_at, Observation, add_commit, commits_after, heard, observe, is_committed, attempt_at_work}
+use Rattle.rules.proofs.Searches.{eqb_refl, any_below_from}
+use Rattle.law.specs.Observer.{View, state, at_work, older_than, caller, Event, told, event, is_commit, is_over, is_start, exclusively, Attempt, after_event, granted_of, with_grant, older_holders, predecessors_at, Observation, add_commit, commits_after, heard, observe, is_committed, attempt_at_work}
 use Rattle.law.specs.Law.{CommittedInOrder}
 use Rattle.law.proofs.Hands.{no_bonds_no_conflict}
 use Rattle.law.proofs.Invariants.{Invariant, works_not_idle, conflict_exclusive, holder_works, holder_in_range}
@@ -34,77 +35,45 @@ module _ {V C : Type 0} where
   -- all predecessors are so, and those of committed attempts were committed before them
   pub record InOrder (t : Stations V) (o : Observation V C) : Type 0 where
     pub committed_in_order : CommittedInOrder o.committed
-    pub precede : (i : ℕ) → works (t i).phase ≡ true → AllByRecursion (λ p. Precedes t o i p) (o.attempts i).predecessors
+    pub precede : (i : ℕ) → works (t i).phase ≡ true → All (Precedes t o i) (o.attempts i).predecessors
 
   -- who is committed stays so
   still_committed : (p : ℕ) (ev : Event V C) (k : Option ℕ) (attempts : ℕ → Attempt V C) (committed : List (Attempt V C))
       → is_committed p committed ≡ true → is_committed p (commits_after ev k attempts committed) ≡ true
-  still_committed p ev k attempts committed e = go (is_commit ev) k
-    where
-      go : (b : Bool) (k : Option ℕ) → is_committed p (cond b (add_commit k attempts committed) committed) ≡ true
-      go false k = e
-      go true None = e
-      go true (Some k) = or_right (eqb (attempts k).number p) (is_committed p committed) e
+  still_committed p ev k attempts committed e = grind arith
 
   -- who commits is committed
   commit_committed : (c : Call C) (a : Answer V) (j : ℕ) (attempts : ℕ → Attempt V C) (committed : List (Attempt V C))
       → is_commit (event c a j) ≡ true
       → is_committed (attempts j).number (commits_after (told c a) (caller c) attempts committed) ≡ true
-  commit_committed c a j attempts committed = go (caller c) (told c a)
-    where
-      go : (k : Option ℕ) (ev : Event V C) → is_commit (cond (is_station k j) ev nothing) ≡ true
-          → is_committed (attempts j).number (commits_after ev k attempts committed) ≡ true
-      go None ev e = contradiction false e refl
-      go (Some k) ev e = by (eqb j k) refl e
-        where
-          by : (b : Bool) → eqb j k ≡ b → is_commit (cond b ev nothing) ≡ true
-              → is_committed (attempts j).number (commits_after ev (Some k) attempts committed) ≡ true
-          by false q e = contradiction false e refl
-          by true q e = rw (e, eqb-true j k q, eqb_refl (attempts k).number)
+  commit_committed c a j attempts committed e = grind (arith, nat_tests)
 
   -- a grant leaves the number and the predecessors
   grant_same_number : (p : Option (ℕ × Mode)) (a : Attempt V C)
       → ((with_grant p a).number ≡ a.number) × ((with_grant p a).predecessors ≡ a.predecessors)
-  grant_same_number None a = (refl, refl)
-  grant_same_number (Some p) a = (refl, refl)
+  grant_same_number p a = grind arith
 
   -- so does an event that neither starts an attempt nor is its end
   event_same_number : (n : ℕ) (ev : Event V C) (a : Attempt V C) → is_start ev ≡ false → is_over ev ≡ false
       → ((after_event n ev a).number ≡ a.number) × ((after_event n ev a).predecessors ≡ a.predecessors)
-  event_same_number n nothing a e f = (refl, refl)
-  event_same_number n starts a e f = contradiction true refl e
-  event_same_number n commits a e f = contradiction true refl f
-  event_same_number n ends a e f = contradiction true refl f
-  event_same_number n (waits r m) a e f = (refl, refl)
-  event_same_number n (gets r m) a e f = (refl, refl)
-  event_same_number n (notes x) a e f = (refl, refl)
+  event_same_number n ev a e f = grind arith
 
   -- an attempt that starts has no predecessors yet
   start_no_predecessors : (n : ℕ) (ev : Event V C) (a : Attempt V C) → is_start ev ≡ true → (after_event n ev a).predecessors ≡ []
-  start_no_predecessors n nothing a e = contradiction false e refl
-  start_no_predecessors n starts a e = refl
-  start_no_predecessors n commits a e = contradiction false e refl
-  start_no_predecessors n ends a e = contradiction false e refl
-  start_no_predecessors n (waits r m) a e = contradiction false e refl
-  start_no_predecessors n (gets r m) a e = contradiction false e refl
-  start_no_predecessors n (notes x) a e = contradiction false e refl
+  start_no_predecessors n ev a e = grind arith
 
   -- what is granted is held
   granted_held : (p : Option (ℕ × Mode)) (r : ℕ) (m : Mode) (a : Attempt V C) → p ≡ Some (r, m) → (with_grant p a).held r ≡ Some m
-  granted_held None r m a e = contradiction true refl (cc)
-  granted_held (Some q) r m a e = let z : q ≡ (r, m) = cc in rw (z, eqb_refl r)
+  granted_held p r m a e = grind (arith, nat_tests)
 
 -- a record that is held by what was observed is held in the table, in that mode
 observed_hold : {V : Type 0} (x : Option (Hold V)) (m : Mode) → Some m ≡ held_mode x
     → (h : Hold V) × (x ≡ Some h) × (hold_mode h ≡ m)
-observed_hold None m e = contradiction true refl (cc)
-observed_hold (Some h) m e = (h, refl, cc)
+observed_hold x m e = grind arith
 
 -- one who holds exclusively holds in that mode
 exclusive_mode : (o : Option Mode) → exclusively o ≡ true → Some Exclusive ≡ o
-exclusive_mode None e = contradiction false e refl
-exclusive_mode (Some Shared) e = contradiction false e refl
-exclusive_mode (Some Exclusive) e = refl
+exclusive_mode o e = grind arith
 
 -- with no bonds nobody is ahead
 free_nobody_ahead : {V C : Type 0} {t : Stations V} {next records : ℕ} → Invariant t next records
@@ -143,11 +112,7 @@ module _ {V C : Type 0} (apply : V → C → V) (t t' : Table V) (o : Observatio
 
   -- who is at work is not over
   not_over : (i : ℕ) → works (t'.stations i).phase ≡ true → is_over (event c a i) ≡ false
-  not_over i b = go (is_over (event c a i)) refl
-    where
-      go : (y : Bool) → is_over (event c a i) ≡ y → y ≡ false
-      go true q = contradiction (works (t'.stations i).phase) b (endings.over i q)
-      go false q = refl
+  not_over i b = false_from_ne_true (is_over (event c a i)) (λ q. cc (endings.over i q))
 
   -- who goes on has the number of before
   same_number : (i : ℕ) → works (t'.stations i).phase ≡ true → is_start (event c a i) ≡ false
@@ -183,26 +148,25 @@ module _ {V C : Type 0} (apply : V → C → V) (t t' : Table V) (o : Observatio
 
   -- those that hold the record at its grant precede
   holders_precede : (i r : ℕ) (k : Hold V) → works (t'.stations i).phase ≡ true → hold_on r (t'.stations i).hand ≡ Some k
-      → (n : ℕ) → AllByRecursion (λ p. Precedes t'.stations after_it i p) (older_holders w' (heard w c w' o) i r n)
-  holders_precede i r k b f zero = tt
-  holders_precede i r k b f (suc n) = go (older_than w' n i && exclusively ((heard w c w' o n).held r)) refl
-      (holders_precede i r k b f n)
-    where
-      go : (y : Bool) → (older_than w' n i && exclusively ((heard w c w' o n).held r)) ≡ y
-          → AllByRecursion (λ p. Precedes t'.stations after_it i p) (older_holders w' (heard w c w' o) i r n)
-          → AllByRecursion (λ p. Precedes t'.stations after_it i p) (cond y ((heard w c w' o n).number ∷ older_holders w' (heard w c w' o) i r n) (older_holders w' (heard w c w' o) i r n))
-      go true q ih = let p = and_parts (older_than w' n i) (exclusively ((heard w c w' o n).held r)) q in
-          (inr (n, holder_ahead i r n k b f p.0 p.1), ih)
-      go false q ih = ih
+      → (n : ℕ) → All (Precedes t'.stations after_it i) (older_holders w' (heard w c w' o) i r n)
+  holders_precede i r k b f zero = All-nil (Precedes t'.stations after_it i)
+  holders_precede i r k b f (suc n) =
+      let more = older_holders w' (heard w c w' o) i r n in
+      let there = holders_precede i r k b f n in
+      cond_both (older_than w' n i && exclusively ((heard w c w' o n).held r)) ((heard w c w' o n).number ∷ more) more
+      (All (Precedes t'.stations after_it i))
+      (λ q. let p = and_parts (older_than w' n i) (exclusively ((heard w c w' o n).held r)) q in
+      All-cons (Precedes t'.stations after_it i) (heard w c w' o n).number more (inr (n, holder_ahead i r n k b f p.0 p.1)) there)
+      (λ _. there)
 
   -- the predecessors that a call adds precede
   added_precede : (i : ℕ) → works (t'.stations i).phase ≡ true
-      → AllByRecursion (λ p. Precedes t'.stations after_it i p) (predecessors_at w' (heard w c w' o) i (grant_of i))
+      → All (Precedes t'.stations after_it i) (predecessors_at w' (heard w c w' o) i (grant_of i))
   added_precede i b = go (grant_of i) refl
     where
       go : (p : Option (ℕ × Mode)) → grant_of i ≡ p
-          → AllByRecursion (λ p. Precedes t'.stations after_it i p) (predecessors_at w' (heard w c w' o) i p)
-      go None q = tt
+          → All (Precedes t'.stations after_it i) (predecessors_at w' (heard w c w' o) i p)
+      go None q = All-nil (Precedes t'.stations after_it i)
       go (Some (r, m)) q =
           let held : (heard w c w' o i).held r ≡ Some m = ap (λ (x : Attempt V C). x.held r) (heard_at_work i b) ∙ granted_held
           (grant_of i) r m (after_event (suc o.started) (event c (w c) i) (o.attempts i)) q in
@@ -236,25 +200,24 @@ module _ {V C : Type 0} (apply : V → C → V) (t t' : Table V) (o : Observatio
             hold_behind = (k'.0, k'.1);
           }
 
-      started : (y : Bool) → is_start (event c a j) ≡ y → y ≡ false
-      started true q = contradiction (works (t.stations j).phase) x.at_work_ahead (endings.starts_from_rest j q)
-      started false q = refl
+      started : is_start (event c a j) ≡ false
+      started = false_from_ne_true (is_start (event c a j)) (λ q. cc (x.at_work_ahead, endings.starts_from_rest j q))
 
       ended : (is_commit (event c a j) ≡ true) ⊎ (endings.out j ≡ true) → Precedes t'.stations after_it i p
       ended (inl q) = inl (rw (e, ← x.numbered) (commit_committed c a j o.attempts o.committed q))
-      ended (inr q) = contradiction (works (t'.stations i).phase) b (endings.ended i
+      ended (inr q) = cc (endings.ended i
           (endings.closed i j x.common ahead.0 behind.0 q ahead.1 ahead.2 behind.1 x.older_ahead))
 
       go : (y : Bool) → works (t'.stations j).phase ≡ y → Precedes t'.stations after_it i p
-      go true q = inr (j, goes q (started (is_start (event c a j)) refl))
+      go true q = inr (j, goes q started)
       go false q = ended (endings.only j x.at_work_ahead q)
 
   -- the predecessors of an attempt at work precede
   precede_after : (i : ℕ) → works (t'.stations i).phase ≡ true
-      → AllByRecursion (λ p. Precedes t'.stations after_it i p) (after_it.attempts i).predecessors
+      → All (Precedes t'.stations after_it i) (after_it.attempts i).predecessors
   unfolding observe
   precede_after i b =
-      All-append (λ p. Precedes t'.stations after_it i p) (predecessors_at w' (heard w c w' o) i (grant_of i))
+      All-append (Precedes t'.stations after_it i) (predecessors_at w' (heard w c w' o) i (grant_of i))
       (heard w c w' o i).predecessors (added_precede i b) (old (is_start (event c a i)) refl)
     where
       same : (heard w c w' o i).predecessors ≡ (after_event (suc o.started) (event c (w c) i) (o.attempts i)).predecessors
@@ -262,13 +225,13 @@ module _ {V C : Type 0} (apply : V → C → V) (t t' : Table V) (o : Observatio
           (after_event (suc o.started) (event c (w c) i) (o.attempts i))).1
 
       old : (y : Bool) → is_start (event c a i) ≡ y
-          → AllByRecursion (λ p. Precedes t'.stations after_it i p) (heard w c w' o i).predecessors
-      old true q = rw (same ∙ start_no_predecessors (suc o.started) (event c (w c) i) (o.attempts i) (rw e q)) tt
+          → All (Precedes t'.stations after_it i) (heard w c w' o i).predecessors
+      old true q = rw (same ∙ start_no_predecessors (suc o.started) (event c (w c) i) (o.attempts i) (rw e q))
+          (All-nil (Precedes t'.stations after_it i))
       old false q =
           let on = endings.goes_on i b q in
           rw (same ∙ (event_same_number (suc o.started) (event c (w c) i) (o.attempts i) (rw e q) (rw e (not_over i b))).1)
-          (All-weaker (λ p. Precedes t.stations o i p) (λ p. Precedes t'.stations after_it i p)
-          (λ p x. still_precedes i p b on x) (o.attempts i).predecessors (order.precede i on.was_at_work))
+          (All-weaker (Precedes t.stations o i) (Precedes t'.stations after_it i) (λ p. still_precedes i p b on) (o.attempts i).predecessors (order.precede i on.was_at_work))
 
   -- who commits has only committed predecessors
   commits_in_order : CommittedInOrder (commits_after (told c a) (caller c) o.attempts o.committed)
@@ -280,8 +243,8 @@ module _ {V C : Type 0} (apply : V → C → V) (t t' : Table V) (o : Observatio
       go true q None n = order.committed_in_order
       go true q (Some k) n = (
         order.committed_in_order,
-        All-weaker (λ p. Precedes t.stations o k p)
-            (λ p. is_committed p o.committed ≡ true) by (o.attempts k).predecessors (order.precede k free.0),
+        recursion_from_All (λ p. is_committed p o.committed ≡ true) (o.attempts k).predecessors (All-weaker (Precedes t.stations o k)
+            (λ p. is_committed p o.committed ≡ true) by (o.attempts k).predecessors (order.precede k free.0)),
       )
         where
           free : (works (t.stations k).phase ≡ true) × (bonds t.stations k ≡ 0)
@@ -301,9 +264,9 @@ pub ordered_from : {V C : Type 0} {w : View V C} {t : Table V} → Tells w t →
     → (o : Observation V C) → InOrder t.stations o → (i : ℕ) → at_work w i ≡ true
     → AllByRecursion (λ p. (attempt_at_work w o.attempts p || is_committed p o.committed) ≡ true) (o.attempts i).predecessors
 ordered_from {V} {C} {w} {t} tells v o order i b =
-    All-weaker (λ p. Precedes t.stations o i p)
-    (λ p. (attempt_at_work w o.attempts p || is_committed p o.committed) ≡ true) by (o.attempts i).predecessors
-    (order.precede i (sym (at_work_told tells v i) ∙ b))
+    recursion_from_All (λ p. (attempt_at_work w o.attempts p || is_committed p o.committed) ≡ true) (o.attempts i).predecessors
+    (All-weaker (Precedes t.stations o i) (λ p. (attempt_at_work w o.attempts p || is_committed p o.committed) ≡ true) by
+    (o.attempts i).predecessors (order.precede i (sym (at_work_told tells v i) ∙ b)))
   where
     by : (p : ℕ) → Precedes t.stations o i p → (attempt_at_work w o.attempts p || is_committed p o.committed) ≡ true
     by p (inl x) = or_right (attempt_at_work w o.attempts p) (is_committed p o.committed) x

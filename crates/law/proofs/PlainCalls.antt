@@ -1,30 +1,26 @@
 -- The calls that free nothing keep table and observation together: refused calls, questions, begin, again, look and change.
-use Rattle.std.proofs.Common.{◌≡◌, ℕ, suc, ◌<◌, Bool, true, false, cond, eqb, ◌⊎◌, [], Some, sym, refl, ap, ◌∙◌, inl, inr, arith}
+use Rattle.std.proofs.Common.{◌≡◌, ℕ, suc, ◌<◌, true, false, cond, eqb, ◌⊎◌, [], Some, sym, refl, ap, ◌∙◌, inl, inr, arith}
 use Rattle.std.proofs.lemmas.Bool.{ne_eqb, cases_eq}
 use Rattle.rules.specs.declared.State.TheVariants.{Running}
 use Rattle.rules.specs.declared.Refusal.{Refusal}
 use Rattle.rules.specs.declared.Call.{Call}
-use Rattle.rules.specs.declared.Call.TheVariants.{Begin, Take, Look, Change, Retire, Commit, GiveUp, Again, Standing, Plotted, Count}
+use Rattle.rules.specs.declared.Call.TheVariants.{Begin, Look, Change, Again}
 use Rattle.rules.specs.declared.Answer.{Answer}
 use Rattle.rules.specs.declared.Answer.TheVariants.{Refused, Number, Value}
-use Rattle.rules.specs.Tables.{Hold, Phase, idle, running, wounded, waiting, Station, Stations, Table, hold_mode, owned, works, hold_on, running_station, with_hand, put}
+use Rattle.rules.specs.Tables.{Hold, Phase, idle, running, wounded, Station, Table, hold_mode, owned, works, hold_on, running_station, with_hand, put}
 use Rattle.rules.specs.Operations.{before, seen, adjust, redrafted}
-use Rattle.rules.specs.Calls.{state_of, after, answer}
-use Rattle.rules.proofs.Searches.{contradiction, none_not_some, eqb_refl}
+use Rattle.rules.specs.Calls.{state_of, after, answer, owns}
+use Rattle.rules.proofs.Searches.{eqb_refl}
 use Rattle.rules.proofs.Stations.{put_same, put_other}
-use Rattle.law.specs.Observer.{View, turned, caller, names, looked, changed, Event, nothing, starts, notes, told, event, Attempt, continued, Observation, observe}
-use Rattle.law.proofs.Hands.{hold_on_adjusted, hold_on_others, aspect_adjusted}
+use Rattle.law.specs.Observer.{View, turned, caller, looked, changed, Event, nothing, starts, notes, told, event, Observation, observe}
+use Rattle.law.proofs.Hands.{hold_on_adjusted, aspect_adjusted}
 use Rattle.law.proofs.Invariants.{Invariant, resting_waits_not, emptied_adds_nothing, put_keeps, adjusted_adds_nothing, begin_keeps, put_leaves_blocked}
-use Rattle.law.proofs.SerialOrder.{Replays, replays_if_empty_put, replays_if_other_changes, replays_own_change, replays_own_look}
-use Rattle.law.proofs.Consistency.{held_mode, turned_not, Matches, fresh_matches, untouched_matches, Tells, Consistent, consistent_step}
+use Rattle.law.proofs.SerialOrder.{replays_if_empty_put, replays_if_other_changes, replays_own_change, replays_own_look}
+use Rattle.law.proofs.Consistency.{held_mode, turned_not, fresh_matches, untouched_matches, Tells, Consistent, consistent_step, MatchesAfter}
 
 -- a call that tells nothing tells nothing of any station
 pub silent : {V C : Type 0} (c : Call C) (a : Answer V) (i : ℕ) → told c a ≡ nothing → event c a i ≡ nothing
-silent {V} {C} c a i e = go (names c i)
-  where
-    go : (b : Bool) → cond b (told c a) nothing ≡ nothing
-    go true = e
-    go false = refl
+silent c a i e = grind arith
 
 -- a call tells nothing of a station that it does not name
 pub untold : {V C : Type 0} (k i : ℕ) (ev : Event V C) → (i ≡ k → ⊥) → cond (eqb i k) ev nothing ≡ nothing
@@ -32,28 +28,7 @@ untold k i ev nk = rw (ne_eqb i k nk)
 
 -- a refused call tells nothing
 pub refused_silent : {V C : Type 0} (c : Call C) (why : Refusal) → told {V = V} c (Refused why) ≡ nothing
-refused_silent (Begin k) why = refl
-refused_silent (Take k r m) why = refl
-refused_silent (Look k r) why = refl
-refused_silent (Change k r c) why = refl
-refused_silent (Retire k r) why = refl
-refused_silent (Commit k) why = refl
-refused_silent (GiveUp k) why = refl
-refused_silent (Again k) why = refl
-refused_silent (Standing k) why = refl
-refused_silent (Plotted r) why = refl
-refused_silent Count why = refl
-
--- an attempt whose station is as it was matches, if it replays
-pub carried_on : {V C : Type 0} (apply : V → C → V) (t t' : Stations V) (show show' : ℕ → V) (i : ℕ) (a : Attempt V C)
-    → t' i ≡ t i → Replays apply t' show' i a.entries → Matches apply t show i a → Matches apply t' show' i a
-carried_on apply t t' show show' i a here replays k =
-    record {
-      replays = replays;
-      holds_observed = λ r. rw here (k.holds_observed r);
-      wait_observed = λ r m w. k.wait_observed r m
-          (rw here at w);
-    }
+refused_silent c why = grind arith
 
 module _ {V C : Type 0} (apply : V → C → V) (opening : ℕ → V) (t : Table V) (o : Observation V C)
     (g : Consistent apply opening t o) (w : View V C) (tells : Tells w t) where
@@ -67,21 +42,18 @@ module _ {V C : Type 0} (apply : V → C → V) (opening : ℕ → V) (t : Table
       → Consistent apply opening t (observe w c w' o)
   silent_consistent c a w' tells' e none =
       consistent_step apply opening t t o c a w w' tells tells' e g.invariant g.invariant g.next_positive g.blocked
-      (λ i _. untouched_matches apply t.stations t.stations t.show i (suc o.started) (event c a i) (o.attempts i)
-      refl (silent c a i none) (g.matches i))
+      (λ i _. untouched_matches apply t.stations t.stations t.show t.show o c a i refl (silent c a i none)
+      (g.matches i).replays (g.matches i))
       (rw none g.answers_agree) (rw none g.values_left) (rw none g.commits_counted)
 
   -- a station k with an empty hand, put as x with an empty hand: the others match
   pub others_match : (c : Call C) (a : Answer V) (k : ℕ) (x : Station V) → (t.stations k).hand ≡ [] → x.hand ≡ [] → (i : ℕ)
       → (i ≡ k → ⊥) → event c a i ≡ nothing
-      → Matches apply (put t.stations k x) t.show i (continued (suc o.started) (state_of (t.stations i).phase) (state_of (put t.stations k x i).phase) (event c a i) (o.attempts i))
+      → MatchesAfter apply t.stations (put t.stations k x) t.show o c a i
   others_match c a k x none none' i nk e =
-      let here : put t.stations k x i ≡ t.stations i = put_other t.stations k x i nk in
-      untouched_matches apply t.stations (put t.stations k x) t.show i (suc o.started) (event c a i) (o.attempts i)
-      here e
-      (carried_on apply t.stations (put t.stations k x) t.show t.show i (o.attempts i) here
+      untouched_matches apply t.stations (put t.stations k x) t.show t.show o c a i (put_other t.stations k x i nk) e
       (replays_if_empty_put apply t.stations t.show k x none none' i nk (o.attempts i).entries (g.matches i).replays)
-      (g.matches i))
+      (g.matches i)
 
   -- a station k that is not at work starts an attempt with stamp s: what is left to show is the invariants
   start_consistent : (c : Call C) (a : Answer V) (k s : ℕ) (t' : Table V) (w' : View V C)
@@ -92,7 +64,7 @@ module _ {V C : Type 0} (apply : V → C → V) (opening : ℕ → V) (t : Table
   start_consistent c a k s t' w' at_new show_same records_same commits_same tells' e rest starts_it named v positive =
       consistent_step apply opening t t' o c a w w' tells tells' e g.invariant v positive
       (rw at_new (put_leaves_blocked t.stations k new (resting_waits_not (t.stations k).phase rest) refl
-      (λ r h f _. none_not_some (hold_on r (t.stations k).hand) h (ap (hold_on r) none) f) g.blocked))
+      (λ r h f _. cc (ap (hold_on r) none)) g.blocked))
       (λ i _. rw (at_new, show_same) (matches i (cases_eq i k)))
       (rw starts_it g.answers_agree) (rw (starts_it, show_same, records_same) g.values_left)
       (rw (starts_it, commits_same) g.commits_counted)
@@ -104,13 +76,10 @@ module _ {V C : Type 0} (apply : V → C → V) (opening : ℕ → V) (t : Table
       none = g.invariant.empty_handed k rest
 
       was_not_waiting : (p : Phase) → works p ≡ false → turned (state_of p) Running ≡ false
-      was_not_waiting idle q = refl
-      was_not_waiting running q = refl
-      was_not_waiting wounded q = refl
-      was_not_waiting (waiting r m) q = contradiction true refl q
+      was_not_waiting p q = grind arith
 
       matches : (i : ℕ) → (i ≡ k) ⊎ (i ≡ k → ⊥)
-          → Matches apply (put t.stations k new) t.show i (continued (suc o.started) (state_of (t.stations i).phase) (state_of (put t.stations k new i).phase) (event c a i) (o.attempts i))
+          → MatchesAfter apply t.stations (put t.stations k new) t.show o c a i
       matches i (inr nk) = others_match c a k new none refl i nk (rw named (untold k i (told c a) nk))
       matches i (inl ik) =
           let ev : event c a k ≡ starts = rw (named, eqb_refl k) starts_it in
@@ -146,9 +115,9 @@ module _ {V C : Type 0} (apply : V → C → V) (opening : ℕ → V) (t : Table
       v = seen (t.stations k).hand (before t.stations t.show k) r
 
       matches : (i : ℕ) → (i ≡ k) ⊎ (i ≡ k → ⊥)
-          → Matches apply t.stations t.show i (continued (suc o.started) (state_of (t.stations i).phase) (state_of (t.stations i).phase) (event (Look k r) (Value v) i) (o.attempts i))
-      matches i (inr nk) = untouched_matches apply t.stations t.stations t.show i (suc o.started)
-          (event (Look k r) (Value v) i) (o.attempts i) refl (untold k i (notes (looked r v)) nk) (g.matches i)
+          → MatchesAfter apply t.stations t.stations t.show o (Look k r) (Value v) i
+      matches i (inr nk) = untouched_matches apply t.stations t.stations t.show t.show o (Look k r) (Value v) i refl
+          (untold k i (notes (looked r v)) nk) (g.matches i).replays (g.matches i)
       matches i (inl ik) = rw (ik, turned_not (t.stations k).phase, eqb_refl k)
           (record {
             replays = replays_own_look apply t.stations t.show k r own.0 own.1 (o.attempts k).entries
@@ -184,30 +153,22 @@ module _ {V C : Type 0} (apply : V → C → V) (opening : ℕ → V) (t : Table
 
       owned_kept : (q : ℕ) (x : Hold V) → hold_on q (t.stations k).hand ≡ Some x → owned x ≡ true
           → (new.stamp ≡ (t.stations k).stamp) × ((x' : Hold V) × (hold_on q new.hand ≡ Some x') × (owned x' ≡ true) × (hold_mode x' ≡ hold_mode x))
-      owned_kept q x f own_x = (refl, by (cases_eq q r))
+      owned_kept q x f own_x = (refl, by)
         where
-          by : (q ≡ r) ⊎ (q ≡ r → ⊥)
-              → (x' : Hold V) × (hold_on q new.hand ≡ Some x') × (owned x' ≡ true) × (hold_mode x' ≡ hold_mode x)
-          by (inl qr) =
-              let there : hold_on r (t.stations k).hand ≡ Some x = rw qr at f in
-              let same : h ≡ x = cc in (
-                change_hold h,
-                rw qr (hold_on_adjusted change_hold (λ _. refl) r (t.stations k).hand h at_r),
-                own,
-                rw (← same)
-                    mode,
-              )
-          by (inr nq) = (x, hold_on_others change_hold (λ _. refl) r q (t.stations k).hand nq ∙ f, own_x, refl)
+          by : (x' : Hold V) × (hold_on q new.hand ≡ Some x') × (owned x' ≡ true) × (hold_mode x' ≡ hold_mode x)
+          by = grind (
+            arith,
+            aspect_adjusted change_hold (λ _. refl) r held_mode (t.stations k).hand h at_r (ap Some mode) q,
+            aspect_adjusted change_hold (λ _. refl) r owns (t.stations k).hand h at_r refl q,
+          )
 
       matches : (i : ℕ) → (i ≡ k) ⊎ (i ≡ k → ⊥)
-          → Matches apply (put t.stations k new) t.show i (continued (suc o.started) (state_of (t.stations i).phase) (state_of (put t.stations k new i).phase) (event (Change k r c) (Value (apply d c)) i) (o.attempts i))
+          → MatchesAfter apply t.stations (put t.stations k new) t.show o (Change k r c) (Value (apply d c)) i
       matches i (inr nk) =
-          let here : put t.stations k new i ≡ t.stations i = put_other t.stations k new i nk in
-          untouched_matches apply t.stations (put t.stations k new) t.show i (suc o.started)
-          (event (Change k r c) (Value (apply d c)) i) (o.attempts i) here (untold k i (notes (changed r c (apply d c))) nk)
-          (carried_on apply t.stations (put t.stations k new) t.show t.show i (o.attempts i) here
+          untouched_matches apply t.stations (put t.stations k new) t.show t.show o (Change k r c) (Value (apply d c)) i
+          (put_other t.stations k new i nk) (untold k i (notes (changed r c (apply d c))) nk)
           (replays_if_other_changes apply t.stations t.next_stamp t.records g.invariant t.show k r c h d at_r own
-          drafted i (o.attempts i).entries nk (g.matches i).replays) (g.matches i))
+          drafted i (o.attempts i).entries nk (g.matches i).replays) (g.matches i)
       matches i (inl ik) =
           rw (ik, put_same t.stations k new, turned_not (t.stations k).phase, eqb_refl k)
           (record {

@@ -1,11 +1,12 @@
 -- Promoting: what it keeps, whom it grants, and that it leaves every wait blocked.
-use Rattle.std.proofs.Common.{◌≡◌, ℕ, ◌<◌, ◌≤◌, true, false, ◌&&◌, ◌⊎◌, List, Some, None, Option, sym, refl, ap, ◌∙◌, inl, inr, le_of_eq}
-use Rattle.std.proofs.lemmas.Bool.{eqb-true, cases_eq, or_cases, or_parts, and_parts, ltb-true, ltb-false, not-true, not-false}
+use Rattle.std.proofs.Common.{◌≡◌, ℕ, ◌<◌, ◌≤◌, true, false, ◌⊎◌, List, Some, None, Option, sym, refl, ap, ◌∙◌, inl, inr, le_of_eq, arith}
+use Rattle.std.proofs.lemmas.Bool.{cases_eq, not-true, not-false}
+use Rattle.std.proofs.lemmas.Bool.Decides.{nat_tests}
 use Rattle.rules.specs.declared.Mode.{Mode}
 use Rattle.rules.specs.Searches.{any_below, first_below, count_below}
-use Rattle.rules.specs.Tables.{Hold, Phase, idle, running, wounded, waiting, Station, Stations, conflict, hold_mode, owned, is_waiting, works, waits_for, hold_on, owned_conflicts, older, put}
+use Rattle.rules.specs.Tables.{Hold, Phase, idle, running, wounded, waiting, Station, Stations, conflict, hold_mode, owned, is_waiting, works, hold_on, put}
 use Rattle.rules.specs.Operations.{before, blocks, ready, grantable, granted_station, granted_in, grant, promote, settle}
-use Rattle.rules.proofs.Searches.{contradiction, eqb_refl, any_below_witness, any_below_none, first_below_passes, first_below_none, first_below_empty, count_one_fewer, count_zero, count_at_most, until_keeps, until_exhausts}
+use Rattle.rules.proofs.Searches.{any_below_witness, any_below_none, first_below_passes, first_below_none, first_below_empty, count_one_fewer, count_zero, count_at_most, until_keeps, until_exhausts}
 use Rattle.rules.proofs.Stations.{put_cases, put_same, put_other}
 use Rattle.law.specs.Observer.{Entry}
 use Rattle.law.proofs.Invariants.{Invariant, holder_in_range, waiter_not_idle, conflicting_holder_older, grant_keeps, BlockedBy, Blocked}
@@ -27,22 +28,16 @@ unfolding grantable
 grantable_parts {V} {t} v k e = go (t k).phase refl e
   where
     go : (p : Phase) → (t k).phase ≡ p → ready t k p ≡ true → Grantable t k
-    go idle q e = contradiction false e refl
-    go running q e = contradiction false e refl
-    go wounded q e = contradiction false e refl
+    go idle q e = cc
+    go running q e = cc
+    go wounded q e = cc
     go (waiting r m) q e =
         record {
           record_number = r;
           mode = m;
           wait = q;
-          free = λ j h f o x.
-              let b = (or_parts (owned_conflicts m (hold_on r (t j).hand)) (waits_for (t j).phase r && older t j k)
-              (clear j (holder_in_range v j r h f))).0 in
-              contradiction true refl (rw (f, o, x) at b);
-          oldest_wait = λ j md w.
-              let b = (or_parts (owned_conflicts m (hold_on r (t j).hand)) (waits_for (t j).phase r && older t j k)
-              (clear j (v.in_range j (waiter_not_idle v j r md w)))).1 in
-              ltb-false (t j).stamp (t k).stamp (rw (w, eqb_refl r) at b);
+          free = λ j h f o x. grind (arith, clear j (holder_in_range v j r h f));
+          oldest_wait = λ j md w. grind (arith, nat_tests, clear j (v.in_range j (waiter_not_idle v j r md w)));
         }
       where
         clear : (j : ℕ) → j < 16 → blocks t k r m j ≡ false
@@ -61,33 +56,18 @@ pub data StaysOrGranted {V : Type 0} (s s' : Station V) : Type 0 where
 
 -- who does not wait is not granted
 not_waiting_not_ready : {V : Type 0} (t : Stations V) (i : ℕ) (p : Phase) → is_waiting p ≡ false → ready t i p ≡ false
-not_waiting_not_ready t i idle e = refl
-not_waiting_not_ready t i running e = refl
-not_waiting_not_ready t i wounded e = refl
-not_waiting_not_ready t i (waiting r m) e = contradiction true refl e
+not_waiting_not_ready t i p e = grind arith
 
--- a hold that conflicts and is owned, of one that may be there
-owned_conflict_parts : {V : Type 0} (m : Mode) (x : Option (Hold V)) → owned_conflicts m x ≡ true
-    → (h : Hold V) × (x ≡ Some h) × (owned h ≡ true) × (conflict m (hold_mode h) ≡ true)
-owned_conflict_parts m None e = contradiction false e refl
-owned_conflict_parts m (Some h) e = let p = and_parts (owned h) (conflict m (hold_mode h)) e in (h, refl, p.0, p.1)
-
--- the wait of one that waits for a record
-wait_parts : (p : Phase) (r : ℕ) → waits_for p r ≡ true → (m : Mode) × (p ≡ waiting r m)
-wait_parts idle r e = contradiction false e refl
-wait_parts running r e = contradiction false e refl
-wait_parts wounded r e = contradiction false e refl
-wait_parts (waiting q m) r e = (m, rw (eqb-true q r e))
+-- a station that keeps a wait from being granted is older, by an owned hold or a wait
+blocks_blocked : {V : Type 0} {t : Stations V} {next records : ℕ} → Invariant t next records → (i r : ℕ) (m : Mode) (j : ℕ)
+    → (t i).phase ≡ waiting r m → blocks t i r m j ≡ true → BlockedBy t i r m j
+blocks_blocked v i r m j wait b = grind (arith, nat_tests, conflicting_holder_older v i j r m)
 
 -- where nobody can be granted, every wait is blocked
 pub blocked_after_settling : {V : Type 0} {t : Stations V} {next records : ℕ} → Invariant t next records
     → ((i : ℕ) → i < 16 → grantable t i ≡ false) → Blocked t
 unfolding grantable
-blocked_after_settling {V} {t} v stuck i r m wait = (
-  s.0,
-  by
-      (or_cases (owned_conflicts m (hold_on r (t s.0).hand)) (waits_for (t s.0).phase r && older t s.0 i) s.2),
-)
+blocked_after_settling {V} {t} v stuck i r m wait = (s.0, blocks_blocked v i r m s.0 wait s.2)
   where
     some : any_below 16 (blocks t i r m) ≡ true
     some = not-false (any_below 16 (blocks t i r m))
@@ -95,14 +75,6 @@ blocked_after_settling {V} {t} v stuck i r m wait = (
 
     s : (j : ℕ) × (j < 16) × (blocks t i r m j ≡ true)
     s = any_below_witness 16 (blocks t i r m) some
-
-    by : (owned_conflicts m (hold_on r (t s.0).hand) ≡ true) ⊎ ((waits_for (t s.0).phase r && older t s.0 i) ≡ true)
-        → BlockedBy t i r m s.0
-    by (inl q) = let h = owned_conflict_parts m (hold_on r (t s.0).hand) q in
-        (conflicting_holder_older v i s.0 r m h.0 wait h.1 h.3, inl h)
-    by (inr q) =
-        let p = and_parts (waits_for (t s.0).phase r) (older t s.0 i) q in
-        (ltb-true (t s.0).stamp (t i).stamp p.1, inr (wait_parts (t s.0).phase r p.0))
 
 -- Settling the stations t.
 module _ {V : Type 0} (t : Stations V) (next records : ℕ) (show : ℕ → V) where
@@ -138,8 +110,7 @@ module _ {V : Type 0} (t : Stations V) (next records : ℕ) (show : ℕ → V) w
       move : StaysOrGranted (t k) (u k)
           → StaysOrGranted (t k) (granted_station (u k) g.record_number g.mode (before u show k g.record_number))
       move (stays e) = is_granted g.record_number g.mode (before u show k g.record_number) (rw (← e) g.wait) (rw e)
-      move (is_granted r m d w e) = contradiction true refl
-          (let x : running ≡ waiting g.record_number g.mode = rw e at g.wait in cc)
+      move (is_granted r m d w e) = let x : running ≡ waiting g.record_number g.mode = rw e at g.wait in cc
 
   -- at the start nobody has moved
   pub promoting_starts : Invariant t next records → Promoting t
@@ -180,11 +151,7 @@ module _ {V : Type 0} (t : Stations V) (next records : ℕ) (show : ℕ → V) w
 
     -- settling neither starts nor ends an attempt
     pub settling_works : (i : ℕ) → works (settle show t i).phase ≡ works (t i).phase
-    settling_works i = go (settle show t i) (settling_keeps.moved i)
-      where
-        go : (s : Station V) → StaysOrGranted (t i) s → works s.phase ≡ works (t i).phase
-        go s (stays e) = rw e
-        go s (is_granted r m d w e) = rw (e, w)
+    settling_works i = grind (arith, settling_keeps.moved i)
 
     -- every attempt replays as before
     pub settling_replays : {C : Type 0} (apply : V → C → V) (entries : ℕ → List (Entry V C))

@@ -1,17 +1,17 @@
 -- An attempt replays: run alone from what stands before its records, its looks and changes get the answers that they were given,
 -- and leave its drafts.
-use Rattle.std.proofs.Common.{◌≡◌, ℕ, ◌<◌, ◌≤◌, Bool, true, false, cond, eqb, ltb, ◌⊎◌, List, [], ◌∷◌, Some, None, Option, sym, refl, ap, ◌∙◌, inl, inr, le_of_lt, arith}
-use Rattle.std.proofs.lemmas.Bool.{eq-eqb, ne_eqb, cases_eq, ltb-true, ltb-false, lt-ltb}
+use Rattle.std.proofs.Common.{◌≡◌, ℕ, ◌<◌, ◌≤◌, Bool, true, false, cond, eqb, ◌⊎◌, List, [], ◌∷◌, Some, None, Option, sym, refl, ap, ◌∙◌, inl, inr, arith}
+use Rattle.std.proofs.lemmas.Bool.{eq-eqb, ne_eqb, cases_eq, lt-ltb}
+use Rattle.std.proofs.lemmas.Bool.Decides.{nat_tests}
 use Rattle.rules.specs.declared.Mode.{Mode}
-use Rattle.rules.specs.declared.Mode.TheVariants.{Shared, Exclusive}
+use Rattle.rules.specs.declared.Mode.TheVariants.{Exclusive}
 use Rattle.rules.specs.declared.Stage.TheVariants.{Owned}
-use Rattle.rules.specs.Tables.{Hold, waiting, Station, Stations, conflict, hold_mode, owned, is_idle, hold_on, draft_in, idle_station, with_hand, put}
+use Rattle.rules.specs.Tables.{Hold, waiting, Station, Stations, hold_mode, owned, is_idle, hold_on, draft_in, idle_station, with_hand, put}
 use Rattle.rules.specs.Operations.{youngest, older_draft, before, or_else, seen, bonds, wound, draft_for, granted_station, adjust, redrafted}
-use Rattle.rules.proofs.Searches.{contradiction, eqb_refl}
-use Rattle.rules.proofs.Stations.{put_cases, put_same, put_other}
+use Rattle.rules.proofs.Stations.{put_same, put_other}
 use Rattle.law.specs.Observer.{stamp, Entry, looked, changed}
 use Rattle.law.specs.Alone.{left, Agrees}
-use Rattle.law.proofs.Hands.{hold_on_adjusted, hold_on_others, no_bonds_no_conflict, draft_is_exclusive, younger_counts_not, without_draft_counts_not, older_draft_parts, no_older_draft}
+use Rattle.law.proofs.Hands.{hold_on_adjusted, hold_on_others, no_bonds_no_conflict, draft_is_exclusive, without_draft_counts_not, older_draft_parts, no_older_draft}
 use Rattle.law.proofs.StandsBefore.{youngest_without_oldest, CountsAlike, before_unchanged, before_is_plotted}
 use Rattle.law.proofs.Invariants.{Invariant, conflict_exclusive, holder_not_idle}
 
@@ -48,21 +48,13 @@ module _ {V C : Type 0} (apply : V → C → V) where
   pub replays_if_empty_put : (t : Stations V) (show : ℕ → V) (k : ℕ) (x : Station V) → (t k).hand ≡ [] → x.hand ≡ [] → (i : ℕ)
       → (i ≡ k → ⊥) → (l : List (Entry V C)) → Replays apply t show i l → Replays apply (put t k x) show i l
   replays_if_empty_put t show k x none none' i ne l =
-      replays_if_before_kept t t' show show i l (λ r h e. (h, rw here e, before_unchanged t t' show i r (each r))) (λ r. rw here)
+      replays_if_before_kept t t' show show i l (λ r h e. (h, rw here e, before_unchanged t t' show i r (λ j. grind (arith, nat_tests, none, none')))) (λ r. rw here)
     where
       t' : Stations V
       t' = put t k x
 
       here : t' i ≡ t i
       here = put_other t k x i ne
-
-      each : (r j : ℕ) → CountsAlike t t' i r j
-      each r j = go (cases_eq j k)
-        where
-          go : (j ≡ k) ⊎ (j ≡ k → ⊥) → CountsAlike t t' i r j
-          go (inl e) = inr
-              (without_draft_counts_not t' i r j (rw (e, put_same t k x, none')), without_draft_counts_not t i r j (rw (e, none)))
-          go (inr e) = let there : t' j ≡ t j = put_other t k x j e in inl (rw there, rw (there, here))
 
   -- an attempt replays as before, if a set is wounded in which every younger holder of what a member holds exclusively is a member
   pub replays_if_closed_set_wounded : (t : Stations V) (show : ℕ → V) (w : ℕ → Bool) (i : ℕ) (l : List (Entry V C)) → w i ≡ false
@@ -97,25 +89,14 @@ module _ {V C : Type 0} (apply : V → C → V) where
 
     -- the stamps are as they were
     stamp_in_redrafted : (j : ℕ) → (redrafted_table j).stamp ≡ (t j).stamp
-    stamp_in_redrafted j = put_cases (λ s. s.stamp ≡ (t j).stamp) t k (with_hand (t k) hand) j (λ e. rw e) (λ _. refl)
+    stamp_in_redrafted j = grind (arith, nat_tests)
 
     -- what stands before a hold is as it was, unless k is older and its draft of the record is another
     pub before_unchanged_by_redraft : (i r : ℕ)
         → (draft_in (hold_on r hand) ≡ draft_in (hold_on r (t k).hand)) ⊎ ((t i).stamp ≤ (t k).stamp)
         → before redrafted_table show i r ≡ before t show i r
-    before_unchanged_by_redraft i r same = before_unchanged t redrafted_table show i r (λ j. go j (cases_eq j k) same)
-      where
-        go : (j : ℕ) → (j ≡ k) ⊎ (j ≡ k → ⊥)
-            → (draft_in (hold_on r hand) ≡ draft_in (hold_on r (t k).hand)) ⊎ ((t i).stamp ≤ (t k).stamp)
-            → CountsAlike t redrafted_table i r j
-        go j (inr ne) _ = inl (stamp_in_redrafted j, rw (stamp_in_redrafted i, put_other t k (with_hand (t k) hand) j ne))
-        go j (inl ek) (inl e) = inl
-            (stamp_in_redrafted j, rw (stamp_in_redrafted j, stamp_in_redrafted i, ek, put_same t k (with_hand (t k) hand), e))
-        go j (inl ek) (inr l) = inr (
-          younger_counts_not redrafted_table i r j
-              (rw (stamp_in_redrafted i, stamp_in_redrafted j, ek) l),
-          younger_counts_not t i r j (rw ek l),
-        )
+    before_unchanged_by_redraft i r same = before_unchanged t redrafted_table show i r
+        (λ j. grind (arith, nat_tests, same, stamp_in_redrafted i, stamp_in_redrafted j))
 
     -- another attempt replays as before: who holds a record beside its owner is older
     pub replays_if_other_redrafts : (i : ℕ) (l : List (Entry V C)) → (i ≡ k → ⊥) → Replays apply t show i l
@@ -131,8 +112,7 @@ module _ {V C : Type 0} (apply : V → C → V) where
             → (draft_in (hold_on r hand) ≡ draft_in (hold_on r (t k).hand))
             ⊎ ((h : Hold V) × (hold_on r (t k).hand ≡ Some h) × (owned h ≡ true) × (hold_mode h ≡ Exclusive))
             → (draft_in (hold_on r hand) ≡ draft_in (hold_on r (t k).hand)) ⊎ ((t i).stamp ≤ (t k).stamp)
-        older_beside r g f (inl e) = inl e
-        older_beside r g f (inr o) = inr (le_of_lt (v.owned_exclusive k i r o.0 g o.1 o.2 o.3 f ne))
+        older_beside r g f x = grind (arith, x, v.owned_exclusive k i r)
 
   -- station k changes the draft d of a record q that it owns
   module _ (t : Stations V) (next records : ℕ) (v : Invariant t next records) (show : ℕ → V) (k q : ℕ) (c : C) (h : Hold V)
@@ -154,13 +134,7 @@ module _ {V C : Type 0} (apply : V → C → V) where
     owned_changes : (r : ℕ)
         → (draft_in (hold_on r changed_hand) ≡ draft_in (hold_on r (t k).hand))
         ⊎ ((h : Hold V) × (hold_on r (t k).hand ≡ Some h) × (owned h ≡ true) × (hold_mode h ≡ Exclusive))
-    owned_changes r = go (cases_eq r q)
-      where
-        go : (r ≡ q) ⊎ (r ≡ q → ⊥)
-            → (draft_in (hold_on r changed_hand) ≡ draft_in (hold_on r (t k).hand))
-            ⊎ ((h : Hold V) × (hold_on r (t k).hand ≡ Some h) × (owned h ≡ true) × (hold_mode h ≡ Exclusive))
-        go (inl eq) = inr (h, rw eq e, own, rw w)
-        go (inr nq) = inl (ap draft_in (changed_elsewhere r nq))
+    owned_changes r = grind (arith, cases_eq r q, changed_elsewhere r)
 
     -- the stations after the change
     abbrev pub changed_table : Stations V
@@ -174,7 +148,7 @@ module _ {V C : Type 0} (apply : V → C → V) where
     -- the attempt itself replays with the change
     pub replays_own_change : (l : List (Entry V C)) → Replays apply t show k l
         → Replays apply changed_table show k (changed q c (apply d c) ∷ l)
-    replays_own_change l s vs p = ((old.0, rw at_q), λ r. go r (cases_eq r q))
+    replays_own_change l s vs p = ((old.0, rw at_q), go)
       where
         here : (changed_table k).hand ≡ changed_hand
         here = rw (put_same t k (with_hand (t k) changed_hand))
@@ -195,10 +169,8 @@ module _ {V C : Type 0} (apply : V → C → V) where
         at_q : left apply l vs q ≡ d
         at_q = old.1 q ∙ rw (e, w)
 
-        go : (r : ℕ) → (r ≡ q) ⊎ (r ≡ q → ⊥)
-            → cond (eqb r q) (apply (left apply l vs q) c) (left apply l vs r) ≡ seen (changed_table k).hand vs r
-        go r (inl eq) = rw (eq, eqb_refl q, at_q, here, changed_at)
-        go r (inr nq) = rw (ne_eqb r q nq, here, changed_elsewhere r nq) (old.1 r)
+        go : (r : ℕ) → cond (eqb r q) (apply (left apply l vs q) c) (left apply l vs r) ≡ seen (changed_table k).hand vs r
+        go r = grind (arith, nat_tests, at_q, here, changed_at, changed_elsewhere r, old.1 r)
 
   -- a look answers what the entries so far leave
   pub replays_own_look : (t : Stations V) (show : ℕ → V) (k q : ℕ) (h : Hold V) → hold_on q (t k).hand ≡ Some h
@@ -229,7 +201,7 @@ module _ {V C : Type 0} (apply : V → C → V) where
 
     -- the stamps are as they were
     stamp_in_granted : (j : ℕ) → (granted_table j).stamp ≡ (t j).stamp
-    stamp_in_granted j = put_cases (λ s. s.stamp ≡ (t j).stamp) t k granted_one j (λ e. rw e) (λ _. refl)
+    stamp_in_granted j = grind (arith, nat_tests)
 
     -- the holds on other records are as they were
     elsewhere : (r : ℕ) → (r ≡ q → ⊥) → hold_on r (new_hold ∷ (t k).hand) ≡ hold_on r (t k).hand
@@ -242,25 +214,8 @@ module _ {V C : Type 0} (apply : V → C → V) where
     -- what stands before is as it was, but for a younger holder of what was granted exclusively
     before_unchanged_by_grant : (i r : ℕ) → (r ≡ q → m ≡ Exclusive → (t i).stamp ≤ (t k).stamp)
         → before granted_table show i r ≡ before t show i r
-    before_unchanged_by_grant i r last = before_unchanged t granted_table show i r (λ j. go j (cases_eq j k) (cases_eq r q))
-      where
-        at_q : (md : Mode) → m ≡ md → (j : ℕ) → j ≡ k → r ≡ q → CountsAlike t granted_table i r j
-        at_q Shared em j ek eq = inr (
-          without_draft_counts_not granted_table i r j
-              (rw (ek, put_same t k granted_one, there r eq, em)),
-          without_draft_counts_not t i r j (rw (ek, eq) no_draft_yet),
-        )
-        at_q Exclusive em j ek eq = inr (
-          younger_counts_not granted_table i r j
-              (rw (stamp_in_granted i, stamp_in_granted j, ek) (last eq em)),
-          younger_counts_not t i r j (rw ek (last eq em)),
-        )
-
-        go : (j : ℕ) → (j ≡ k) ⊎ (j ≡ k → ⊥) → (r ≡ q) ⊎ (r ≡ q → ⊥) → CountsAlike t granted_table i r j
-        go j (inr ne) rq = inl (stamp_in_granted j, rw (stamp_in_granted i, put_other t k granted_one j ne))
-        go j (inl ek) (inl eq) = at_q m refl j ek eq
-        go j (inl ek) (inr nq) = inl
-            (stamp_in_granted j, rw (stamp_in_granted j, stamp_in_granted i, ek, put_same t k granted_one, elsewhere r nq))
+    before_unchanged_by_grant i r last = before_unchanged t granted_table show i r (λ j. grind
+        (arith, nat_tests, cases_eq r q, no_draft_yet, elsewhere r, there r, last, stamp_in_granted i, stamp_in_granted j))
 
     -- another attempt replays as before: who holds what is granted exclusively is older
     pub replays_if_other_granted : (i : ℕ) (l : List (Entry V C)) → (i ≡ k → ⊥) → Replays apply t show i l
@@ -281,7 +236,7 @@ module _ {V C : Type 0} (apply : V → C → V) where
 
     -- the attempt itself replays as before
     pub replays_own_grant : (l : List (Entry V C)) → Replays apply t show k l → Replays apply granted_table show k l
-    replays_own_grant l s vs p = (old.0, λ r. old.1 r ∙ go r (cases_eq r q))
+    replays_own_grant l s vs p = (old.0, λ r. old.1 r ∙ go r)
       where
         here : (granted_table k).hand ≡ new_hold ∷ (t k).hand
         here = rw (put_same t k granted_one)
@@ -297,38 +252,33 @@ module _ {V C : Type 0} (apply : V → C → V) where
         old : Agrees apply l vs × ((r : ℕ) → left apply l vs r ≡ seen (t k).hand vs r)
         old = s vs (λ r g f. let x = held r g f (cases_eq r q) in p r x.0 x.1 ∙ same r)
 
-        starts : (r : ℕ) → r ≡ q → (md : Mode) → vs r ≡ or_else (draft_for md (before t show k q)) (vs r)
-        starts r eq Shared = refl
-        starts r eq Exclusive = ap vs eq ∙ p q new_hold (rw here (there q refl)) ∙ same q
+        at_q : vs q ≡ before t show k q
+        at_q = p q new_hold (rw here (there q refl)) ∙ same q
 
-        go : (r : ℕ) → (r ≡ q) ⊎ (r ≡ q → ⊥) → seen (t k).hand vs r ≡ seen (granted_table k).hand vs r
-        go r (inl eq) = let none : draft_in (hold_on r (t k).hand) ≡ None = rw eq no_draft_yet in rw (here, none, there r eq)
-            (starts r eq m)
-        go r (inr nq) = rw (here, elsewhere r nq)
+        go : (r : ℕ) → seen (t k).hand vs r ≡ seen (granted_table k).hand vs r
+        go r = grind (arith, cases_eq r q, here, elsewhere r, there r, no_draft_yet, at_q)
 
   -- station k, which has no bonds, commits
   module _ (t : Stations V) (next records : ℕ) (v : Invariant t next records) (show : ℕ → V) (k : ℕ) (free : bonds t k ≡ 0) where
     -- whoever else holds what it holds exclusively is younger
     holder_beside_free_writer_younger : (i r : ℕ) (g h : Hold V) → hold_on r (t k).hand ≡ Some h → hold_mode h ≡ Exclusive
         → hold_on r (t i).hand ≡ Some g → (i ≡ k → ⊥) → (t k).stamp < (t i).stamp
-    holder_beside_free_writer_younger i r g h e x f ne = go (cases_eq (t i).stamp (t k).stamp) (ltb (t i).stamp (t k).stamp)
-        refl
-      where
-        go : ((t i).stamp ≡ (t k).stamp) ⊎ ((t i).stamp ≡ (t k).stamp → ⊥) → (b : Bool) → ltb (t i).stamp (t k).stamp ≡ b
-            → (t k).stamp < (t i).stamp
-        go (inl same) b q = absurd (ne (v.apart i k (holder_not_idle v i r g f) (holder_not_idle v k r h e) same))
-        go (inr ns) true q =
-            let clash = no_bonds_no_conflict t k free r h e i (v.in_range i (holder_not_idle v i r g f))
-            (ltb-true (t i).stamp (t k).stamp q) in
-            contradiction true refl (rw (f, x) at clash)
-        go (inr ns) false q = omega (arith, ltb-false (t i).stamp (t k).stamp q)
+    holder_beside_free_writer_younger i r g h e x f ne =
+        grind (
+          arith,
+          nat_tests,
+          cases_eq (t i).stamp (t k).stamp,
+          no_bonds_no_conflict t k free r h e i
+              (v.in_range i (holder_not_idle v i r g f)),
+          v.apart i k (holder_not_idle v i r g f) (holder_not_idle v k r h e),
+        )
 
     -- the plotted value stands before each of its holds
     pub before_free_is_plotted : (r : ℕ) (h : Hold V) → hold_on r (t k).hand ≡ Some h → before t show k r ≡ show r
     before_free_is_plotted r h e = before_is_plotted t show k r (λ j l. no_older_draft t k r j (λ d o f.
         let x = draft_is_exclusive (hold_on r (t j).hand) d f in
         let clash = no_bonds_no_conflict t k free r h e j l o in
-        contradiction (conflict (hold_mode h) Exclusive) (conflict_exclusive (hold_mode h)) (rw (x.1, x.2) at clash)))
+        cc (conflict_exclusive (hold_mode h), rw (x.1, x.2) at clash)))
 
     -- the stations without it
     abbrev pub left_table : Stations V
@@ -352,14 +302,7 @@ module _ {V C : Type 0} (apply : V → C → V) where
         plot_at u e = ap (λ (u : V). (youngest (λ j. (left_table j).stamp) (older_draft left_table i r) u 16).1) e
 
         go : (o : Option V) → draft_in (hold_on r (t k).hand) ≡ o → before left_table plotted_values i r ≡ before t show i r
-        go None e = plot_at (show r) (rw e) ∙ before_unchanged t left_table show i r (λ j. by j (cases_eq j k))
-          where
-            by : (j : ℕ) → (j ≡ k) ⊎ (j ≡ k → ⊥) → CountsAlike t left_table i r j
-            by j (inl ek) = inr (
-              without_draft_counts_not left_table i r j (rw (ek, put_same t k idle_station)),
-              without_draft_counts_not t i r j (rw ek e),
-            )
-            by j (inr nk) = let there : left_table j ≡ t j = put_other t k idle_station j nk in inl (rw there, rw (there, here))
+        go None e = plot_at (show r) (rw e) ∙ before_unchanged t left_table show i r (λ j. grind (arith, nat_tests, here))
         go (Some d) e =
             plot_at d (rw e) ∙ (youngest_without_oldest (λ j. (t j).stamp) (λ j. (left_table j).stamp) (older_draft t i r)
             (older_draft left_table i r) (show r) 16 k d
@@ -393,7 +336,7 @@ module _ {V C : Type 0} (apply : V → C → V) where
 
             rest : (j : ℕ) → (j ≡ k → ⊥)
                 → (older_draft left_table i r j ≡ older_draft t i r j) × ((left_table j).stamp ≡ (t j).stamp)
-            rest j nk = let there : left_table j ≡ t j = put_other t k idle_station j nk in (rw (there, here), rw there)
+            rest j nk = grind (arith, nat_tests, here)
 
     -- another attempt replays as before
     pub replays_if_other_commits : (i : ℕ) (l : List (Entry V C)) → (i ≡ k → ⊥) → Replays apply t show i l

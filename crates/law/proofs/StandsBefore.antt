@@ -1,9 +1,9 @@
 -- What stands before a hold, and the changes that leave it as it was.
-use Rattle.std.proofs.Common.{◌≡◌, ℕ, zero, suc, ◌<◌, ◌≤◌, Bool, true, false, cond, ltb, ◌⊎◌, Some, None, Option, sym, refl, ap, ◌∙◌, inl, inr, arith}
-use Rattle.std.proofs.lemmas.Bool.{cases_eq, ltb-true, ltb-false}
+use Rattle.std.proofs.Common.{◌≡◌, ℕ, zero, suc, ◌<◌, ◌≤◌, ◌⊎◌, Some, None, Option, refl, ap, ◌∙◌, inl, inr, arith}
+use Rattle.std.proofs.lemmas.Bool.{cases_eq}
+use Rattle.std.proofs.lemmas.Bool.Decides.{nat_tests}
 use Rattle.rules.specs.Tables.{Stations}
-use Rattle.rules.specs.Operations.{younger_of, youngest, older_draft, before}
-use Rattle.rules.proofs.Searches.{contradiction}
+use Rattle.rules.specs.Operations.{youngest, older_draft, before}
 
 -- the youngest of the drafts that count
 module _ {V : Type 0} where
@@ -11,11 +11,7 @@ module _ {V : Type 0} where
   pub youngest_same : (s s' : ℕ → ℕ) (c c' : ℕ → Option V) (v : V) → ((j : ℕ) → c' j ≡ c j)
       → ((j : ℕ) (d : V) → c j ≡ Some d → s' j ≡ s j) → (n : ℕ) → youngest s' c' v n ≡ youngest s c v n
   youngest_same s s' c c' v same stamps zero = refl
-  youngest_same s s' c c' v same stamps (suc n) = rw (same n, youngest_same s s' c c' v same stamps n) (go (c n) refl)
-    where
-      go : (o : Option V) → c n ≡ o → younger_of o (s' n) (youngest s c v n) ≡ younger_of o (s n) (youngest s c v n)
-      go None e = refl
-      go (Some d) e = rw (stamps n d e)
+  youngest_same s s' c c' v same stamps (suc n) = grind (arith, same n, stamps n, youngest_same s s' c c' v same stamps n)
 
   -- of no drafts the youngest is the value given
   pub youngest_of_none : (s : ℕ → ℕ) (c : ℕ → Option V) (v : V) → (n : ℕ) → ((j : ℕ) → j < n → c j ≡ None)
@@ -27,59 +23,18 @@ module _ {V : Type 0} where
   pub youngest_at_least : (s : ℕ → ℕ) (c : ℕ → Option V) (v : V) → (n j : ℕ) (d : V) → j < n → c j ≡ Some d
       → s j ≤ (youngest s c v n).0
   youngest_at_least s c v zero j d l e = absurd (omega arith)
-  youngest_at_least s c v (suc n) j d l e = go (cases_eq j n) (c n) refl (λ h. youngest_at_least s c v n j d h e)
-    where
-      test : (b : Bool) (x : V) → ltb (youngest s c v n).0 (s n) ≡ b → (j ≡ n) ⊎ (s j ≤ (youngest s c v n).0)
-          → s j ≤ (cond b (s n, x) (youngest s c v n)).0
-      test true x q (inl e) = rw e (omega arith)
-      test true x q (inr h) = omega (arith, ltb-true (youngest s c v n).0 (s n) q)
-      test false x q (inl e) = rw e (ltb-false (youngest s c v n).0 (s n) q)
-      test false x q (inr h) = h
-
-      go : (j ≡ n) ⊎ (j ≡ n → ⊥) → (o : Option V) → c n ≡ o → (j < n → s j ≤ (youngest s c v n).0)
-          → s j ≤ (younger_of o (s n) (youngest s c v n)).0
-      go (inl q) None f ih = contradiction true refl (let g : c j ≡ None = rw q f in cc)
-      go (inl q) (Some x) f ih = test (ltb (youngest s c v n).0 (s n)) x refl (inl q)
-      go (inr q) None f ih = ih (omega arith)
-      go (inr q) (Some x) f ih = test (ltb (youngest s c v n).0 (s n)) x refl (inr (ih (omega arith)))
+  youngest_at_least s c v (suc n) j d l e = grind (arith, nat_tests, cases_eq j n, youngest_at_least s c v n j d)
 
   -- the youngest is one of the drafts, or there is none
   pub youngest_is_one : (s : ℕ → ℕ) (c : ℕ → Option V) (v : V) → (n : ℕ)
       → (youngest s c v n ≡ (0, v)) ⊎ ((j : ℕ) × (j < n) × (c j ≡ Some (youngest s c v n).1) × (s j ≡ (youngest s c v n).0))
   youngest_is_one s c v zero = inl refl
-  youngest_is_one s c v (suc n) = go (c n) refl (youngest_is_one s c v n)
-    where
-      Is : ℕ × V → ℕ → Type 0
-      Is p m = (p ≡ (0, v)) ⊎ ((j : ℕ) × (j < m) × (c j ≡ Some p.1) × (s j ≡ p.0))
-
-      more : (p : ℕ × V) → Is p n → Is p (suc n)
-      more p (inl e) = inl e
-      more p (inr r) = inr (r.0, omega (arith, r.1), r.2, r.3)
-
-      test : (b : Bool) (x : V) → c n ≡ Some x → Is (youngest s c v n) n → Is (cond b (s n, x) (youngest s c v n)) (suc n)
-      test true x e ih = inr (n, omega arith, e, refl)
-      test false x e ih = more (youngest s c v n) ih
-
-      go : (o : Option V) → c n ≡ o → Is (youngest s c v n) n → Is (younger_of o (s n) (youngest s c v n)) (suc n)
-      go None e ih = more (youngest s c v n) ih
-      go (Some x) e ih = test (ltb (youngest s c v n).0 (s n)) x e ih
+  youngest_is_one s c v (suc n) = grind (arith, youngest_is_one s c v n)
 
   -- the draft that is younger than every other is the youngest
   pub youngest_is : (s : ℕ → ℕ) (c : ℕ → Option V) (v : V) → (n k : ℕ) (d : V) → k < n → c k ≡ Some d → 0 < s k
       → ((j : ℕ) (e : V) → j < n → c j ≡ Some e → (j ≡ k → ⊥) → s j < s k) → (youngest s c v n).1 ≡ d
-  youngest_is s c v n k d l e pos top = go (youngest_is_one s c v n)
-    where
-      most : s k ≤ (youngest s c v n).0
-      most = youngest_at_least s c v n k d l e
-
-      go : (youngest s c v n ≡ (0, v)) ⊎ ((j : ℕ) × (j < n) × (c j ≡ Some (youngest s c v n).1) × (s j ≡ (youngest s c v n).0))
-          → (youngest s c v n).1 ≡ d
-      go (inl q) = absurd (omega (arith, ap (λ (p : ℕ × V). p.0) q, most))
-      go (inr r) = pick (cases_eq r.0 k)
-        where
-          pick : (r.0 ≡ k) ⊎ (r.0 ≡ k → ⊥) → (youngest s c v n).1 ≡ d
-          pick (inl q) = let f : c k ≡ Some (youngest s c v n).1 = rw (← q) r.2 in cc
-          pick (inr q) = absurd (omega (arith, top r.0 (youngest s c v n).1 r.1 r.2 q, r.3, most))
+  youngest_is s c v n k d l e pos top = grind (arith, youngest_is_one s c v n, youngest_at_least s c v n k d, cases_eq, top)
 
   -- if the oldest goes and its draft becomes the value given, the youngest is as it was
   pub youngest_without_oldest : (s s' : ℕ → ℕ) (c c' : ℕ → Option V) (v : V) → (n k : ℕ) (d : V) → k < n → c k ≡ Some d → 0 < s k
@@ -97,7 +52,7 @@ module _ {V : Type 0} where
           younger j x lj h = omega (arith, youngest_at_least s c v n j x lj h, r.3)
 
           kept : (j : ℕ) (x : V) → c' j ≡ Some x → (j ≡ k → ⊥)
-          kept j x h q = contradiction true refl (let g : c' j ≡ None = rw q gone in cc)
+          kept j x h q = let g : c' j ≡ None = rw q gone in cc
 
           pick : (r.0 ≡ k) ⊎ (r.0 ≡ k → ⊥) → (youngest s' c' d n).1 ≡ (youngest s c v n).1
           pick (inl q) =
@@ -107,28 +62,13 @@ module _ {V : Type 0} where
               ap (λ (p : ℕ × V). p.1) only ∙ same
             where
               none : (j : ℕ) → j < n → c' j ≡ None
-              none j lj = by (cases_eq j k) (c' j) refl
-                where
-                  by : (j ≡ k) ⊎ (j ≡ k → ⊥) → (o : Option V) → c' j ≡ o → c' j ≡ None
-                  by (inl u) o h = rw u gone
-                  by (inr u) None h = h
-                  by (inr u) (Some x) h =
-                      let cj : c j ≡ Some x = sym (rest j u).0 ∙ h in
-                      let sk : s r.0 ≡ s k = ap s q in
-                      absurd (omega (arith, least j x lj cj u, younger j x lj cj))
+              none j lj = grind (arith, cases_eq j k, rest j, least j, younger j)
           pick (inr q) =
               youngest_is s' c' d n r.0 (youngest s c v n).1 r.1 ((rest r.0 q).0 ∙ r.2)
               (rw (rest r.0 q).1 (omega (arith, least r.0 (youngest s c v n).1 r.1 r.2 q))) others
             where
               others : (j : ℕ) (x : V) → j < n → c' j ≡ Some x → (j ≡ r.0 → ⊥) → s' j < s' r.0
-              others j x lj h ne =
-                  let nk = kept j x h in
-                  let cj : c j ≡ Some x = sym (rest j nk).0 ∙ h in
-                  rw ((rest j nk).1, (rest r.0 q).1) (by (cases_eq (s j) (s r.0)) cj)
-                where
-                  by : (s j ≡ s r.0) ⊎ (s j ≡ s r.0 → ⊥) → c j ≡ Some x → s j < s r.0
-                  by (inl u) cj = absurd (ne (apart j r.0 x (youngest s c v n).1 cj r.2 u))
-                  by (inr u) cj = omega (arith, younger j x lj cj)
+              others j x lj h ne = grind (arith, kept j x, rest j, rest r.0 q, apart j r.0 x (youngest s c v n).1, younger j x lj)
 
 -- station j counts for station i at record r as it did: with the same stamp and draft, or for nothing
 abbrev pub CountsAlike : {V : Type 0} → Stations V → Stations V → ℕ → ℕ → ℕ → Type 0
@@ -144,12 +84,10 @@ before_unchanged {V} t t' show i r each =
     (λ j. same j (each j)) (λ j d e. stamps j d e (each j)) 16)
   where
     same : (j : ℕ) → CountsAlike t t' i r j → older_draft t' i r j ≡ older_draft t i r j
-    same j (inl p) = p.1
-    same j (inr p) = p.0 ∙ sym p.1
+    same j p = grind arith
 
     stamps : (j : ℕ) (d : V) → older_draft t i r j ≡ Some d → CountsAlike t t' i r j → (t' j).stamp ≡ (t j).stamp
-    stamps j d e (inl p) = p.0
-    stamps j d e (inr p) = contradiction true refl (let q = p.1 in cc)
+    stamps j d e p = grind arith
 
 -- if no draft counts, the plotted value stands before
 pub before_is_plotted : {V : Type 0} (t : Stations V) (show : ℕ → V) (i r : ℕ) → ((j : ℕ) → j < 16 → older_draft t i r j ≡ None)

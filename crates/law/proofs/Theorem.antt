@@ -1,21 +1,19 @@
 -- The law of runs, proved of the rules.
-use Rattle.std.proofs.Common.{◌≡◌, ℕ, suc, ◌<◌, Bool, true, false, cond, eqb, leb, List, [], ◌∷◌, Some, None, Option, sym, refl, ap, ◌∙◌, subst, arith}
-use Rattle.std.proofs.lemmas.Bool.{eqb-false, leb-false, le-leb, lt-leb}
-use Rattle.rules.specs.declared.Refusal.{Refusal}
+use Rattle.std.proofs.Common.{◌≡◌, ℕ, suc, ◌<◌, List, [], ◌∷◌, None, sym, refl, ap, ◌∙◌, inl, inr, arith}
+use Rattle.std.proofs.lemmas.Bool.{le-leb, lt-leb, cases_lt}
+use Rattle.std.proofs.lemmas.Bool.Decides.{nat_tests}
+use Rattle.std.proofs.lemmas.List.Elements.{All-nil}
 use Rattle.rules.specs.declared.Call.{Call}
 use Rattle.rules.specs.declared.Call.TheVariants.{Begin, Take, Look, Change, Retire, Commit, GiveUp, Again, Standing, Plotted, Count}
-use Rattle.rules.specs.declared.Answer.{Answer}
 use Rattle.rules.specs.declared.Answer.TheVariants.{Refused, Value, Committed}
-use Rattle.rules.specs.Tables.{Table, is_wounded, idle_station, put, with_stations}
-use Rattle.rules.specs.Operations.{wound, settle, wounded_by_give_up}
+use Rattle.rules.specs.Tables.{Table, idle_station}
 use Rattle.rules.specs.Calls.{refusals, first_refusal, after, answer, opened}
-use Rattle.rules.proofs.Searches.{contradiction}
 use Rattle.law.specs.Observer.{View, Engine, is_commit, is_over, is_start, Observation, observe, observed}
 use Rattle.law.specs.Alone.{all_left}
 use Rattle.law.specs.Law.{Opening, Serial, Ordered, Live}
 use Rattle.law.specs.Runs.{table, engine, Lawful, AlwaysOrderly}
 use Rattle.law.proofs.Invariants.{Invariant}
-use Rattle.rules.proofs.Admission.{begin_admitted, take_admitted, look_admitted, change_admitted, retire_admitted, commit_admitted, give_up_admitted, again_admitted, refused_not_value, refused_not_committed, step_refused, step_accepted, answer_refused, answer_accepted}
+use Rattle.rules.proofs.Admission.{begin_admitted, take_admitted, look_admitted, change_admitted, retire_admitted, commit_admitted, give_up_admitted, again_admitted, step_cases, answer_refused, answer_accepted}
 use Rattle.law.proofs.Consistency.{fresh_matches, Tells, Consistent, heard_matches}
 use Rattle.law.proofs.PlainCalls.{refused_silent, Following, silent_consistent, begin_consistent, again_consistent, look_consistent, change_consistent}
 use Rattle.law.proofs.FreeingCalls.{retire_consistent, commit_consistent, give_up_consistent, take_consistent}
@@ -48,29 +46,11 @@ module _ {V C : Type 0} (apply : V → C → V) (named : List (Call C) → ℕ) 
 
   -- a new table has the invariants
   new_invariant : Invariant start.stations start.next_stamp records
-  new_invariant =
-      record {
-        owned_exclusive = λ i j r h k q _ _ _ _. contradiction true refl (cc);
-        exclusive_wait = λ i j r k q _. contradiction true refl (cc);
-        shared_wait = λ i j r k q _ _. contradiction true refl (cc);
-        in_range = λ i q. contradiction true refl q;
-        stamped = λ i q. contradiction true refl q;
-        apart = λ i j q _ _. contradiction true refl q;
-        empty_handed = λ i q. refl;
-        held_inside = λ i r h q. contradiction true refl (cc);
-        awaited_inside = λ i r m q. contradiction true refl (cc);
-        awaited_not_held = λ i r m q. refl;
-        distinct = λ i. tt;
-        room = λ i. omega arith;
-      }
+  new_invariant = grind arith
 
   -- the first stamp is above 0
   first_positive : 0 < start.next_stamp
-  first_positive = go (eqb first 0) refl
-    where
-      go : (b : Bool) → eqb first 0 ≡ b → 0 < cond b 1 first
-      go true q = omega arith
-      go false q = let n = eqb-false first 0 q in omega arith
+  first_positive = grind (arith, nat_tests)
 
   -- a call that is not refused: whose attempts it ends
   accepted_ends : (n : ℕ) (t : Table V) (v : Invariant t.stations t.next_stamp t.records) (c : Call C)
@@ -91,19 +71,10 @@ module _ {V C : Type 0} (apply : V → C → V) (named : List (Call C) → ℕ) 
   -- any call: whose attempts it ends
   next_ends : (h : List (Call C)) → Invariant (table_after h).stations (table_after h).next_stamp (table_after h).records
       → (c : Call C) → Ends (table_after h).stations (table_after (c ∷ h)).stations c (e h c)
-  next_ends h v c = go (first_refusal (refusals (named (c ∷ h)) c (table_after h))) refl
-    where
-      F : Answer V × Table V → Type 0
-      F p = Ends (table_after h).stations p.1.stations c p.0
-
-      go : (x : Option Refusal) → first_refusal (refusals (named (c ∷ h)) c (table_after h)) ≡ x
-          → Ends (table_after h).stations (table_after (c ∷ h)).stations c (e h c)
-      go (Some why) q =
-          subst F (sym (step_refused apply (named (c ∷ h)) c (table_after h) why q))
-          (unchanged_ends_none (table_after h).stations c (Refused why) (ap is_commit (refused_silent c why))
-          (ap is_over (refused_silent c why)) (ap is_start (refused_silent c why)))
-      go None q = subst F (sym (step_accepted apply (named (c ∷ h)) c (table_after h) q))
-          (accepted_ends (named (c ∷ h)) (table_after h) v c q)
+  next_ends h v c = step_cases apply (named (c ∷ h)) c (table_after h) (λ p. Ends (table_after h).stations p.1.stations c p.0)
+      (λ why _. unchanged_ends_none (table_after h).stations c (Refused why) (ap is_commit (refused_silent c why))
+      (ap is_over (refused_silent c why)) (ap is_start (refused_silent c why)))
+      (accepted_ends (named (c ∷ h)) (table_after h) v c)
 
   -- From opening values that are the show's.
   module _ (opening : ℕ → V) (opens : (r : ℕ) → r < records → show r ≡ opening r) where
@@ -113,7 +84,7 @@ module _ {V C : Type 0} (apply : V → C → V) (named : List (Call C) → ℕ) 
         record {
           invariant = new_invariant;
           next_positive = first_positive;
-          blocked = λ i r m q. contradiction true refl (cc);
+          blocked = λ i r m q. cc;
           matches = λ i. fresh_matches apply (λ i. idle_station) show i 0 refl refl;
           answers_agree = tt;
           values_left = opens;
@@ -148,27 +119,15 @@ module _ {V C : Type 0} (apply : V → C → V) (named : List (Call C) → ℕ) 
     -- table and observation belong together after every list of calls
     consistent : (h : List (Call C)) → Consistent apply opening (table_after h) (observed e h)
     consistent [] = new_consistent
-    consistent (c ∷ h) = next (consistent h)
-      where
-        next : Consistent apply opening (table_after h) (observed e h)
-            → Consistent apply opening (table_after (c ∷ h)) (observed e (c ∷ h))
-        next g = go (first_refusal (refusals (named (c ∷ h)) c (table_after h))) refl
-          where
-            -- the answer of the call, and what is to be shown of the table that it leaves
-            F : Answer V × Table V → Type 0
-            F p = e h c ≡ p.0 → Tells (e (c ∷ h)) p.1 → Consistent apply opening p.1
-                (observe (e h) c (e (c ∷ h)) (observed e h))
-
-            go : (x : Option Refusal) → first_refusal (refusals (named (c ∷ h)) c (table_after h)) ≡ x
-                → Consistent apply opening (table_after (c ∷ h)) (observe (e h) c (e (c ∷ h)) (observed e h))
-            go (Some why) q =
-                subst F (sym (step_refused apply (named (c ∷ h)) c (table_after h) why q))
-                (λ a tells'. silent_consistent apply opening (table_after h) (observed e h) g (e h) (tells h) c (Refused why)
-                (e (c ∷ h)) tells' a (refused_silent c why)) refl (tells (c ∷ h))
-            go None q =
-                subst F (sym (step_accepted apply (named (c ∷ h)) c (table_after h) q))
-                (λ a tells'. accepted_consistent (named (c ∷ h)) (table_after h) (observed e h) g (e h) (tells h) c q (e (c ∷ h))
-                tells' a) refl (tells (c ∷ h))
+    consistent (c ∷ h) =
+        let g = consistent h in
+        step_cases apply (named (c ∷ h)) c (table_after h)
+        (λ p. e h c ≡ p.0 → Tells (e (c ∷ h)) p.1 → Consistent apply opening p.1
+        (observe (e h) c (e (c ∷ h)) (observed e h)))
+        (λ why _ a tells'. silent_consistent apply opening (table_after h) (observed e h) g (e h) (tells h) c (Refused why)
+        (e (c ∷ h)) tells' a (refused_silent c why))
+        (λ q a tells'. accepted_consistent (named (c ∷ h)) (table_after h) (observed e h) g (e h) (tells h) c q (e (c ∷ h))
+        tells' a) refl (tells (c ∷ h))
 
   -- the opening values are those of the show
   abbrev show_consistent : (h : List (Call C)) → Consistent apply show (table_after h) (observed e h)
@@ -182,43 +141,18 @@ module _ {V C : Type 0} (apply : V → C → V) (named : List (Call C) → ℕ) 
   -- the number of records stays
   records_stay : (h : List (Call C)) → (table_after h).records ≡ records
   records_stay [] = refl
-  records_stay (c ∷ h) = go (records_stay h) (first_refusal (refusals (named (c ∷ h)) c (table_after h))) refl
+  records_stay (c ∷ h) = step_cases apply (named (c ∷ h)) c (table_after h) (λ p. p.1.records ≡ records) (λ _ _. records_stay h)
+      (λ _. after_same c (table_after h) ∙ records_stay h)
     where
       after_same : (c : Call C) (t : Table V) → (after apply c t).records ≡ t.records
-      after_same (Begin k) t = refl
-      after_same (Take k r m) t = refl
-      after_same (Look k r) t = refl
-      after_same (Change k r c) t = refl
-      after_same (Retire k r) t = refl
-      after_same (Commit k) t = refl
-      after_same (GiveUp k) t = by (is_wounded (t.stations k).phase)
-        where
-          by : (b : Bool)
-              → (cond b (with_stations t (put t.stations k idle_station)) (with_stations t (settle t.show (put (wound (wounded_by_give_up t.stations k) t.stations) k idle_station)))).records
-              ≡ t.records
-          by true = refl
-          by false = refl
-      after_same (Again k) t = refl
-      after_same (Standing k) t = refl
-      after_same (Plotted r) t = refl
-      after_same Count t = refl
-
-      go : (table_after h).records ≡ records → (x : Option Refusal)
-          → first_refusal (refusals (named (c ∷ h)) c (table_after h)) ≡ x → (table_after (c ∷ h)).records ≡ records
-      go ih (Some why) q = ap (λ (p : Answer V × Table V). p.1.records)
-          (step_refused apply (named (c ∷ h)) c (table_after h) why q) ∙ ih
-      go ih None q = ap (λ (p : Answer V × Table V). p.1.records) (step_accepted apply (named (c ∷ h)) c (table_after h) q) ∙
-          (after_same c (table_after h) ∙ ih)
+      after_same c t = grind arith
 
   -- a record of which plotted tells a value is one of the show's
   value_told_inside : (r : ℕ) (v : V) → e [] (Plotted r) ≡ Value v → r < records
-  value_told_inside r v q = go (leb records r) refl
-    where
-      go : (b : Bool) → leb records r ≡ b → r < records
-      go true l =
-          let refused = answer_refused apply (named (Plotted r ∷ [])) (Plotted r) start refusal.Record (rw l) in
-          absurd (refused_not_value refusal.Record v (sym refused ∙ q))
-      go false l = leb-false records r l
+  value_told_inside r v q = elim (cases_lt r records) [
+    | inl l ↦ l
+    | inr l ↦ cc (answer_refused apply (named (Plotted r ∷ [])) (Plotted r) start refusal.Record (rw (le-leb records r l)))
+  ]
 
   -- opening values are the show's
   opening_is_show : (opening : ℕ → V) → Opening e opening → (r : ℕ) → r < records → show r ≡ opening r
@@ -226,17 +160,8 @@ module _ {V C : Type 0} (apply : V → C → V) (named : List (Call C) → ℕ) 
 
   -- the commit number that a commit would get
   commit_number : (h : List (Call C)) (i n : ℕ) → e h (Commit i) ≡ Committed n → n ≡ suc (table_after h).commits
-  commit_number h i n q = go (first_refusal (refusals {C = C} (named (Commit i ∷ h)) (Commit i) (table_after h))) refl
-    where
-      go : (x : Option Refusal) → first_refusal (refusals {C = C} (named (Commit i ∷ h)) (Commit i) (table_after h)) ≡ x
-          → n ≡ suc (table_after h).commits
-      go None z =
-          let accepted = answer_accepted apply (named (Commit i ∷ h)) (Commit i) (table_after h) z in
-          let same : Committed n ≡ Committed (suc (table_after h).commits) = sym q ∙ accepted in
-          cc
-      go (Some why) z =
-          let refused = answer_refused apply (named (Commit i ∷ h)) (Commit i) (table_after h) why z in
-          absurd (refused_not_committed why n (sym refused ∙ q))
+  commit_number h i n q = step_cases apply (named (Commit i ∷ h)) (Commit i) (table_after h)
+      (λ p. p.0 ≡ Committed n → n ≡ suc (table_after h).commits) (λ _ _ z. cc) (λ _ z. cc) q
 
   -- the serial part
   serial : (h : List (Call C)) → Serial apply e h
@@ -251,7 +176,7 @@ module _ {V C : Type 0} (apply : V → C → V) (named : List (Call C) → ℕ) 
 
   -- attempts are in order after every list of calls
   in_order : (h : List (Call C)) → InOrder (table_after h).stations (observed e h)
-  in_order [] = record { committed_in_order = tt; precede = λ i b. tt }
+  in_order [] = record { committed_in_order = tt; precede = λ i b. All-nil _ }
   in_order (c ∷ h) =
       in_order_after apply (table_after h) (table_after (c ∷ h)) (observed e h) c (e h c) (e h) (e (c ∷ h)) refl (tells (c ∷ h))
       (show_consistent h).invariant (show_consistent (c ∷ h)).invariant (next_ends h (show_consistent h).invariant c)

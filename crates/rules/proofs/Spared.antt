@@ -1,6 +1,6 @@
 -- Whom a wound spares: nobody older than all first members joins, so a take spares the taker.
-use Rattle.std.proofs.Common.{◌≡◌, ℕ, suc, ◌<◌, ◌≤◌, Bool, true, false, leb, refl, le_trans, le_of_lt, arith}
-use Rattle.std.proofs.lemmas.Bool.{and_parts, ltb-true, leb-true, le-leb}
+use Rattle.std.proofs.Common.{◌≡◌, ℕ, suc, ◌<◌, ◌≤◌, Bool, true, false, leb, le_trans, le_of_lt, arith}
+use Rattle.std.proofs.lemmas.Bool.{and_parts, ltb-true, leb-true, le-leb, false_from_ne_true}
 use Rattle.rules.specs.declared.Mode.{Mode}
 use Rattle.rules.specs.Tables.{Stations, older, conflicts, hold_on}
 use Rattle.rules.specs.Operations.{widen, must_yield}
@@ -22,8 +22,4 @@ module _ {V : Type 0} (t : Stations V) (k r : ℕ) (m : Mode) where
 
   -- a take does not wound the taker
   pub taker_spared : widen t (must_yield t k r m) k ≡ false
-  taker_spared = go (widen t (must_yield t k r m) k) refl
-    where
-      go : (b : Bool) → widen t (must_yield t k r m) k ≡ b → b ≡ false
-      go true q = absurd (omega (arith, taker_older k q))
-      go false q = refl
+  taker_spared = false_from_ne_true (widen t (must_yield t k r m) k) (λ q. omega (arith, taker_older k q))
