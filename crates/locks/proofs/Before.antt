@@ -1,10 +1,10 @@
 -- What stands before a hold, by the place of its draft.
-use Rattle.std.proofs.Common.{◌≡◌, ℕ, zero, suc, ◌+◌, Bool, true, false, cond, ltb, List, get_or, Some, None, Option, sym, refl, ap, ◌∙◌}
+use Rattle.std.proofs.Common.{◌≡◌, ℕ, zero, suc, ◌+◌, Bool, true, false, cond, ltb, List, length, Some, None, Option, sym, refl, ap, ◌∙◌}
 use Rattle.std.specs.Option.{option_map}
 use Rattle.rules.specs.Tables.{older, hold_on, draft_in}
 use Rattle.rules.specs.Operations.{younger_of, youngest, older_draft, before}
 use Rattle.locks.specs.declared.station.Station.{Station}
-use Rattle.locks.specs.View.{stations_with, placed, stamp_at, no_station}
+use Rattle.locks.specs.View.{hand_at, stations_with, placed, stamp_at}
 use Rattle.locks.proofs.Turns.{one_more}
 use Rattle.locks.proofs.Hands.{draft_by_place}
 
@@ -14,7 +14,7 @@ pub older_draft_by_place : {V : Type 0} (drafts : ℕ → ℕ → V) (xs : List 
 older_draft_by_place {V} drafts xs i r j = go (older (stations_with drafts xs) j i)
   where
     go : (b : Bool) → cond b (draft_in (hold_on r (stations_with drafts xs j).hand)) None ≡ option_map (drafts j) (cond b (draft_in (hold_on r (stations_with (λ j k. k) xs j).hand)) None)
-    go true = draft_by_place (drafts j) r (get_or xs j no_station).hand (get_or xs j no_station).held
+    go true = draft_by_place (drafts j) r (hand_at xs j) (length (hand_at xs j))
     go false = refl
 
 -- the value behind a place, or the one that is plotted

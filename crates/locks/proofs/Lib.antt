@@ -1,4 +1,5 @@
 pub mod Turns
+pub mod Places
 pub mod Hands
 pub mod Kept
 pub mod Bonds

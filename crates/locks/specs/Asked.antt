@@ -1,12 +1,12 @@
 -- What the questions ask of the stations of the code, in the words of the rules.
-use Rattle.std.specs.Prelude.{ℕ, ◌<◌, Bool, cond, ◌&&◌, List, Some, None, Option, nat_lt, slice_index_or}
+use Rattle.std.specs.Prelude.{ℕ, ◌<◌, Bool, cond, ◌&&◌, List, Some, None, Option, slice_get}
 use Rattle.rules.specs.declared.Mode.{Mode}
 use Rattle.rules.specs.Searches.{first_below, until}
 use Rattle.rules.specs.Tables.{Stations, older, conflicts, hold_on}
 use Rattle.rules.specs.Operations.{exclusive_in_common, joins, with_member}
 use Rattle.locks.specs.declared.station.Hold.{Hold}
 use Rattle.locks.specs.declared.station.Station.{Station}
-use Rattle.locks.specs.View.{bare, no_hold}
+use Rattle.locks.specs.View.{bare}
 
 -- is station j an older holder of record r with a mode that conflicts with the mode m of station i?
 abbrev pub binds_on : List Station → ℕ → ℕ → Mode → ℕ → Bool
@@ -31,4 +31,4 @@ Below p = (p.0 < 16) × (p.1 < 16)
 
 -- the hold at a place, if the place is in use
 abbrev pub hold_at : Station → ℕ → Option Hold
-hold_at s k = cond (nat_lt k s.held) (Some (slice_index_or s.hand k no_hold)) None
+hold_at s k = slice_get s.hand.items k

@@ -116,7 +116,7 @@ impl LockTable {
         if self.stations[i].holds(at) {
             return Err(Refusal::Held);
         }
-        if self.stations[i].held >= 16 {
+        if self.stations[i].hand.is_full() {
             Err(Refusal::Hand)
         } else {
             Ok(i)

@@ -1,38 +1,23 @@
 // Changes of the table. A station number at or past 16 names no station: nothing changes there.
 ghost use Rattle.std.specs.Prelude.{◌≡◌, ◌+◌, replicate, if◌then◌else◌, ◌==◌};
-ghost use Rattle.locks.specs.View.{stamp_at, active_at, member_of};
-ghost use Rattle.locks.specs.Changes.{idle_entry, begins, change, freed, started, awaiting, granted, again, retired_at, wounded_below};
+ghost use Rattle.locks.specs.View.{no_station, stamp_at, active_at, member_of};
+ghost use Rattle.locks.specs.Changes.{begins, change, freed, started, awaiting, granted, again, retired_at, wounded_below};
 
-use crate::station::{Hold, Phase, Station};
+use crate::station::Station;
 use crate::table::{LAST_STAMP, LockTable};
-use rules::{Mode, Stage};
-
-// An idle station of a new table.
-fn idle_entry() -> Station
-    ensures { result ≡ idle_entry }
-{
-    let none = Hold {
-        at: 0,
-        mode: Mode::Shared,
-        stage: Stage::Owned,
-    };
-    Station {
-        phase: Phase::Idle,
-        hand: [none; 16],
-        held: 0,
-    }
-}
+use rules::Mode;
+use std::array;
 
 impl LockTable {
     // A table of idle stations; 0 as the first stamp counts as 1.
     pub fn new(first: u32) -> LockTable
-        ensures stations { result.stations ≡ replicate 16 idle_entry }
+        ensures stations { result.stations ≡ replicate 16 no_station }
         ensures stamps { result.next ≡ (if first == 0 then 1 else first) }
         ensures commits { result.commits ≡ 0 }
     {
         let next = if first == 0 { 1 } else { first };
         LockTable {
-            stations: [idle_entry(); 16],
+            stations: array::from_fn(|_| Station::new()),
             next,
             commits: 0,
         }

@@ -1,9 +1,9 @@
 // Questions to the whole table. A station number at or past 16 is an idle station in each.
-ghost use Rattle.std.specs.Prelude.{◌≡◌, ◌<◌, ◌≤◌, true, IfSome, MatchOption, slice_index_or};
+ghost use Rattle.std.specs.Prelude.{◌≡◌, ◌<◌, ◌≤◌, true, length, IfSome, MatchOption, slice_index_or};
 ghost use Rattle.rules.specs.Searches.{any_below};
 ghost use Rattle.rules.specs.Tables.{older, is_wounded};
 ghost use Rattle.rules.specs.Operations.{bonds, behind_bond};
-ghost use Rattle.locks.specs.View.{bare, no_station, stamp_at, active_at};
+ghost use Rattle.locks.specs.View.{bare, no_station, hand_at, stamp_at, active_at};
 ghost use Rattle.locks.specs.Asked.{binds_on, hold_at};
 
 use crate::station::{Hold, Station};
@@ -43,23 +43,16 @@ impl LockTable {
     // How many records station i holds: the next hold comes to that place.
     pub fn held(&self, i: usize) -> usize
         ensures within { result ≤ 16 }
-        ensures held { result ≡ (slice_index_or self.now.stations i no_station).held }
+        ensures held { result ≡ length (hand_at self.now.stations i) }
     {
-        if i < 16 { self.stations[i].held } else { 0 }
+        self.stations.get(i).map_or(0, |station| station.hand.len())
     }
 
     // The hold at a place of station i, if the place is in use.
     pub fn hold(&self, i: usize, place: usize) -> Option<Hold>
         ensures { result ≡ hold_at (slice_index_or self.now.stations i no_station) place }
     {
-        if i >= 16 {
-            return None;
-        }
-        if place < self.stations[i].held {
-            Some(self.stations[i].hand[place])
-        } else {
-            None
-        }
+        self.stations.get(i)?.hand.get(place).copied()
     }
 
     // Whether station j is older than station i.
@@ -97,18 +90,15 @@ impl LockTable {
     pub fn bonds(&self, i: usize) -> u32
         ensures { result ≡ bonds (bare self.now.stations) i }
     {
-        if i >= 16 {
+        let Some(station) = self.stations.get(i) else {
             return 0;
-        }
-        let held = self.stations[i].held;
-        let mut n = 0;
-        for k in 0..held {
-            let hold = self.stations[i].hand[k];
-            if self.bound_on(i, hold.at, hold.mode) {
-                n += 1;
-            }
-        }
-        n
+        };
+        let bound = station
+            .hand
+            .iter()
+            .filter(|hold| self.bound_on(i, hold.at, hold.mode))
+            .count();
+        bound as u32
     }
 
     // Whether station j is behind a bond of station i.
@@ -116,13 +106,10 @@ impl LockTable {
         requires { (i < 16) × (j < 16) }
         ensures { result ≡ behind_bond (bare self.now.stations) i j }
     {
-        let held = self.stations[i].held;
-        let mut some = false;
-        for k in 0..held {
-            let hold = self.stations[i].hand[k];
-            some = self.binds(i, hold.at, hold.mode, j) | some;
-        }
-        some
+        self.stations[i]
+            .hand
+            .iter()
+            .any(|hold| self.binds(i, hold.at, hold.mode, j))
     }
 
     // A station behind a bond of station i, if there are bonds.

@@ -4,8 +4,9 @@ use Rattle.rules.specs.declared.Mode.TheVariants.{Shared, Exclusive}
 use Rattle.rules.specs.declared.Refusal.{Refusal}
 use Rattle.rules.specs.declared.Refusal.TheVariants as refusal
 use Rattle.rules.specs.Tables.{conflict}
-use Rattle.locks.specs.View.{no_station, no_hold}
+use Rattle.locks.specs.View.{no_hold, hand_at}
 use Rattle.locks.specs.Admission.{shared_refused, admitted, refusal_in, HoldOf}
+use Rattle.locks.proofs.Kept.{same_read}
 use Rattle.locks.proofs.Refusals.{change_by_mode}
 use Rattle.locks.proofs.table.LockTable.admit_change.Goals as goal
 
@@ -30,9 +31,11 @@ returns c =
     let i = c.in_ok-i.i in
     let k = c.in_ok-i.k in
     let hold = c.in_ok-i.ensures.place in
-    let mode : ℕ → Mode = λ j. (get_or (get_or t.stations j no_station).hand k no_hold).mode in
+    let mode : ℕ → Mode = λ j. (get_or (hand_at t.stations j) k no_hold).mode in
+    let seen : c.deref.result.now ≡ hand_at t.stations i = c.deref.ensures.0 ∙ ap (λ s. s.hand.items) (same_read t.stations i _ hold.station_below t.full) in
+    let answer : c.admit_exclusive.result ≡ admitted (i, k) (shared_refused (mode i)) = c.admit_exclusive.ensures ∙ ap (λ hs. admitted (i, k) (shared_refused (get_or hs k no_hold).mode)) seen in
     record {
-      refusal = ap refusal_in c.admit_exclusive.ensures ∙ refused_in (i, k) (shared_refused (mode i)) ∙ ap (λ j. shared_refused (mode j)) hold.station ∙ sym (by_mode (mode c.args.s))
+      refusal = ap refusal_in answer ∙ refused_in (i, k) (shared_refused (mode i)) ∙ ap (λ j. shared_refused (mode j)) hold.station ∙ sym (by_mode (mode c.args.s))
           ∙ sym (change_by_mode t c.args.s c.args.at c.args.records (Some k) c.in_ok-i.ensures.refusal hold.place);
-      place = subst (λ (r : Result (ℕ × ℕ) Refusal). IfOk r (HoldOf t c.args.s c.args.at)) (sym c.admit_exclusive.ensures) (found (HoldOf t c.args.s c.args.at) (i, k) (shared_refused (mode i)) hold);
+      place = subst (λ (r : Result (ℕ × ℕ) Refusal). IfOk r (HoldOf t c.args.s c.args.at)) (sym answer) (found (HoldOf t c.args.s c.args.at) (i, k) (shared_refused (mode i)) hold);
     }

@@ -7,7 +7,7 @@ use Rattle.locks.proofs.table.LockTable.grant.Goals as goal
 pub invariant_of-self : goal.invariant_of-self
 invariant_of-self c =
     let t = c.args.self.now in
-    kept_by granted granted_keeps t.stations c.args.s t.next t.commits c.grant.new.self c.if-s-lt16.true c.grant.ensures t.full t.hands t.room t.stamped t.width
+    kept_by granted granted_keeps t.stations c.args.s t.next t.commits c.index-self-s.result c.grant.new.self c.if-s-lt16.true c.grant.ensures t.full t.room t.stamped t.width
 
 pub returns-else-s-lt16 : goal.returns-else-s-lt16
 returns-else-s-lt16 c = record { stations = sym (set_past _ _ _ (omega arith)); stamps = refl; commits = refl }

@@ -4,6 +4,7 @@ use Rattle.rules.specs.Tables.{is_waiting}
 use Rattle.std.proofs.lemmas.List.{get_or_past}
 use Rattle.locks.specs.declared.station.Station.{Station}
 use Rattle.locks.specs.View.{bare, no_station, phase_of}
+use Rattle.locks.proofs.Kept.{read_as}
 use Rattle.locks.proofs.Turns.{filled_none, filled_more, filled_all}
 use Rattle.locks.proofs.table.LockTable.waiting.Goals as goal
 
@@ -14,7 +15,7 @@ pub loop-j-preserved : goal.loop-j-preserved
 loop-j-preserved c = (
   length-set _ _ _ ∙ c.loop-j.invariant.0,
   filled_more (λ k. is_waiting (bare c.args.self.now.stations k).phase) c.loop-j.members c.loop-j.j _ (omega arith)
-      c.waits.ensures c.loop-j.invariant.1,
+      (read_as (λ s. is_waiting (phase_of s.phase)) c.args.self.now.stations c.loop-j.j _ _ c.loop-j-test.true c.waits.ensures c.args.self.now.full) c.loop-j.invariant.1,
 )
 
 pub returns : goal.returns

@@ -2,7 +2,7 @@ use Rattle.std.proofs.Common.{set, sym, refl, ap, ◌∙◌}
 use Rattle.locks.specs.declared.table.LockTable.{LockTable}
 use Rattle.locks.specs.View.{member_of}
 use Rattle.locks.specs.Changes.{wounded, change, wounded_below}
-use Rattle.locks.proofs.Kept.{kept_by, wounded_keeps, wounded_here, wounded_not_here, wounded_none}
+use Rattle.locks.proofs.Kept.{kept_by, read_as, wounded_keeps, wounded_here, wounded_not_here, wounded_none}
 use Rattle.locks.proofs.Turns.{all_turns}
 use Rattle.locks.proofs.table.LockTable.wound.Goals as goal
 use Rattle.locks.proofs.table.LockTable.wound.Goals.{then-members-s, else-members-s}
@@ -10,7 +10,7 @@ use Rattle.locks.proofs.table.LockTable.wound.Goals.{then-members-s, else-member
 pub invariant_of-self : goal.invariant_of-self
 invariant_of-self c =
     let t = c.loop-s.self in
-    kept_by wounded wounded_keeps t.stations c.loop-s.s t.next t.commits c.wound.new.self c.loop-s-test.true c.wound.ensures t.full t.hands t.room t.stamped t.width
+    kept_by wounded wounded_keeps t.stations c.loop-s.s t.next t.commits c.index-self-s.result c.wound.new.self c.loop-s-test.true c.wound.ensures t.full t.room t.stamped t.width
 
 pub loop-s-preserved : goal.loop-s-preserved
 loop-s-preserved c =
@@ -20,7 +20,7 @@ loop-s-preserved c =
     let xs = c.args.self.now.stations in
     elim c.if-members-s.branch [
       | then-members-s w ↦ (
-        ap (λ (t : LockTable). t.stations) w.self-is ∙ ap (set before.stations s) w.wound.ensures ∙ ap (change wounded s) c.loop-s.invariant.0 ∙ sym (wounded_here members xs s w.if-members-s.true),
+        ap (λ (t : LockTable). t.stations) w.self-is ∙ ap (set before.stations s) (read_as wounded before.stations s _ _ c.loop-s-test.true w.wound.ensures before.full) ∙ ap (change wounded s) c.loop-s.invariant.0 ∙ sym (wounded_here members xs s w.if-members-s.true),
         ap (λ (t : LockTable). t.next) w.self-is ∙ c.loop-s.invariant.1,
         ap (λ (t : LockTable). t.commits) w.self-is ∙ c.loop-s.invariant.2,
       )
