@@ -11,7 +11,7 @@ use Rattle.locks.specs.declared.station.Phase.{Phase}
 use Rattle.locks.specs.declared.station.Phase.TheVariants.{Idle, Running, Waiting, Wounded}
 use Rattle.locks.specs.declared.station.Station.{Station}
 use Rattle.locks.specs.View.{no_hold, no_station, phase_of, hand_at, claimed, HasRoom, attempts, active, awaited_in, awaited_at}
-use Rattle.locks.specs.Changes.{in_phase, change, freed, wounded, wounded_phase, awaiting, waiting_in, granted, granted_in, again, again_in, retired_hold, retired_at, wounded_below}
+use Rattle.locks.specs.Changes.{in_phase, Keeps, change, freed, wounded, wounded_phase, awaiting, waiting_in, granted, granted_in, again, again_in, retired_hold, retired_at, wounded_below}
 
 -- a station read after one was put at s: that one, or what was there
 pub set_cases : (P : Station → Type 0) (xs : List Station) (s : ℕ) (y : Station) (i : ℕ) → i < length xs → (i ≡ s → P y)
@@ -56,10 +56,6 @@ Facts xs next commits = record {
   stamped : commits + attempts xs ≤ next;
   width : next < 4294967296;
 }
-
--- a change that keeps the room of a station, and makes no attempt
-abbrev pub Keeps : (Station → Station) → Type 0
-Keeps f = (x : Station) → HasRoom x → HasRoom (f x) × (active (f x) ≡ true → active x ≡ true)
 
 -- what a table keeps, after a change of one station
 pub kept : (xs : List Station) (s next commits : ℕ) (y : Station) → length xs ≡ 16 → ((i : ℕ) → i < 16 → HasRoom (get_or xs i no_station))

@@ -1,5 +1,5 @@
 -- What each change makes of a station of the code, and of the list of stations.
-use Rattle.std.specs.Prelude.{ℕ, zero, suc, Bool, cond, ◌&&◌, List, [], ◌∷◌, ◌++◌, length, nat_le, nat_lt, slice_index_or, slice_set}
+use Rattle.std.specs.Prelude.{◌≡◌, ℕ, zero, suc, Bool, true, cond, ◌&&◌, List, [], ◌∷◌, ◌++◌, length, nat_le, nat_lt, slice_index_or, slice_set}
 use Rattle.rules.specs.declared.Mode.{Mode}
 use Rattle.rules.specs.declared.Stage.TheVariants.{Owned, Retired}
 use Rattle.rules.specs.Calls.{last_stamp}
@@ -7,7 +7,7 @@ use Rattle.locks.specs.declared.station.Hold.{Hold}
 use Rattle.locks.specs.declared.station.Phase.{Phase}
 use Rattle.locks.specs.declared.station.Phase.TheVariants.{Idle, Running, Waiting, Wounded}
 use Rattle.locks.specs.declared.station.Station.{Station}
-use Rattle.locks.specs.View.{no_hold, no_station}
+use Rattle.locks.specs.View.{no_hold, no_station, HasRoom, active}
 
 -- does begin at station s find a station and a stamp?
 abbrev pub begins : ℕ → ℕ → Bool
@@ -76,6 +76,18 @@ retired_hold h = record { at = h.at; mode = h.mode; stage = Retired }
 -- a station with the hold at place k retired
 abbrev pub retired_at : ℕ → Station → Station
 retired_at k s = in_phase s.phase (slice_set s.hand.items k (retired_hold (slice_index_or s.hand.items k no_hold)))
+
+-- what is made of a station
+abbrev pub Change : Type 0
+Change = Station → Station
+
+-- a change that keeps the room of a hand, and makes no attempt
+abbrev pub Keeps : Change → Type 0
+Keeps f = (s : Station) → HasRoom s → HasRoom (f s) × (active (f s) ≡ true → active s ≡ true)
+
+-- whatever these calls leave of a station is that change of it
+abbrev pub Does : (Station → Station → Type 0) → Change → Type 0
+Does leaves f = (old new : Station) → leaves old new → new ≡ f old
 
 -- the stations with station i changed
 abbrev pub change : (Station → Station) → ℕ → List Station → List Station

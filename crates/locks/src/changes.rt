@@ -1,7 +1,8 @@
 // Changes of the table. A station number at or past 16 names no station: nothing changes there.
 ghost use Rattle.std.specs.Prelude.{◌≡◌, ◌+◌, replicate, if◌then◌else◌, ◌==◌};
-ghost use Rattle.locks.specs.View.{no_station, stamp_at, active_at, member_of};
-ghost use Rattle.locks.specs.Changes.{begins, change, freed, started, awaiting, granted, again, retired_at, wounded_below};
+ghost use Rattle.std.specs.Fn.{FnOnceReturnsAtMut};
+ghost use Rattle.locks.specs.View.{HasRoom, no_station, stamp_at, active_at, member_of};
+ghost use Rattle.locks.specs.Changes.{begins, Change, Keeps, Does, change, freed, started, awaiting, granted, again, retired_at, wounded_below};
 
 use crate::station::Station;
 use crate::table::{LAST_STAMP, LockTable};
@@ -9,6 +10,19 @@ use rules::Mode;
 use std::array;
 
 impl LockTable {
+    // Station s, if there is one, is changed.
+    fn change<F: FnOnce(&mut Station)>(&mut self, s: usize, by: F)
+        requires callable { (station : _) → HasRoom station.now → F.pre by station }
+        requires kept { (f : Change) × Keeps f × Does (λ old new. FnOnceReturnsAtMut F.FnOnce by old tt new) f }
+        ensures stations { (f : Change) → Does (λ old new. FnOnceReturnsAtMut F.FnOnce by old tt new) f → self.new.stations ≡ change f s self.old.stations }
+        ensures stamps { self.new.next ≡ self.old.next }
+        ensures commits { self.new.commits ≡ self.old.commits }
+    {
+        if s < 16 {
+            by(&mut self.stations[s]);
+        }
+    }
+
     // A table of idle stations; 0 as the first stamp counts as 1.
     pub fn new(first: u32) -> LockTable
         ensures stations { result.stations ≡ replicate 16 no_station }
@@ -32,8 +46,7 @@ impl LockTable {
     {
         let stamp = self.next;
         if (s < 16) & (stamp <= LAST_STAMP) {
-            let entry = &mut self.stations[s];
-            entry.start(stamp);
+            self.stations[s].start(stamp);
             self.next = stamp + 1;
         }
         stamp
@@ -47,10 +60,7 @@ impl LockTable {
         ensures commits { self.new.commits ≡ self.old.commits }
     {
         let stamp = self.stamp(s);
-        if s < 16 {
-            let entry = &mut self.stations[s];
-            entry.again();
-        }
+        self.change(s, |station| station.again());
         stamp
     }
 
@@ -60,10 +70,7 @@ impl LockTable {
         ensures stamps { self.new.next ≡ self.old.next }
         ensures commits { self.new.commits ≡ self.old.commits }
     {
-        if s < 16 {
-            let entry = &mut self.stations[s];
-            entry.wait(at, mode);
-        }
+        self.change(s, |station| station.wait(at, mode));
     }
 
     // The hold at a place of station s is retired.
@@ -72,10 +79,7 @@ impl LockTable {
         ensures stamps { self.new.next ≡ self.old.next }
         ensures commits { self.new.commits ≡ self.old.commits }
     {
-        if s < 16 {
-            let entry = &mut self.stations[s];
-            entry.retire(place);
-        }
+        self.change(s, |station| station.retire(place));
     }
 
     // What station s waits for becomes an owned hold.
@@ -84,10 +88,7 @@ impl LockTable {
         ensures stamps { self.new.next ≡ self.old.next }
         ensures commits { self.new.commits ≡ self.old.commits }
     {
-        if s < 16 {
-            let entry = &mut self.stations[s];
-            entry.grant();
-        }
+        self.change(s, |station| station.grant());
     }
 
     // The attempts of the members are wounded.
@@ -96,10 +97,9 @@ impl LockTable {
         ensures stamps { self.new.next ≡ self.old.next }
         ensures commits { self.new.commits ≡ self.old.commits }
     {
-        for s in 0..16usize {
-            if members[s] {
-                let entry = &mut self.stations[s];
-                entry.wound();
+        for (s, member) in members.iter().enumerate() {
+            if *member {
+                self.change(s, |station| station.wound());
             }
         }
     }
@@ -110,10 +110,7 @@ impl LockTable {
         ensures stamps { self.new.next ≡ self.old.next }
         ensures commits { self.new.commits ≡ self.old.commits }
     {
-        if s < 16 {
-            let entry = &mut self.stations[s];
-            entry.free();
-        }
+        self.change(s, |station| station.free());
     }
 
     // The attempt of station s, if there is one, is counted as committed, and the station is idle. Answers the commits so far.
