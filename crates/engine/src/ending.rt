@@ -1,12 +1,12 @@
 // Commit and give up.
-ghost use Rattle.std.specs.Prelude.{◌≡◌, ◌<◌, true, false, not, ◌&&◌, is_ok, ◌==◌, slice_index_or};
+ghost use Rattle.std.specs.Prelude.{◌≡◌, ◌<◌, true, false, not, ◌&&◌, is_ok, ◌==◌, length, slice_index_or};
 ghost use Rattle.rules.specs.declared.Answer.TheVariants.{Number, Committed};
 ghost use Rattle.rules.specs.declared.Call.TheVariants.{Commit, GiveUp};
 ghost use Rattle.rules.specs.Searches.{count_below};
 ghost use Rattle.rules.specs.Tables.{idle_station, put};
 ghost use Rattle.rules.specs.Operations.{wound, wounded_by_give_up, settle as settle_by_rules};
 ghost use Rattle.rules.specs.Orderly.{Orderly};
-ghost use Rattle.locks.specs.View.{no_station, active_at};
+ghost use Rattle.locks.specs.View.{no_station, hand_at, active_at};
 ghost use Rattle.locks.specs.Asked.{hold_at};
 ghost use Rattle.engine.specs.View.{show_of, drafts_of, stations_of, with_draft, with_drafts, view};
 ghost use Rattle.engine.specs.Answers.{as_answer, Ruled, RuledNaming, Kept};
@@ -41,7 +41,7 @@ impl<K: Kind, S: Shelf<K>, D: Shelf<K>> Engine<K, S, D> {
     // Writes the drafts of station s to the show.
     fn write_drafts(&mut self, s: usize)
         requires { s < 16 }
-        ensures rows { S.Shelf.rows self.new.show ≡ with_drafts (drafts_of K.Kind.home (D.Shelf.rows self.old.drafts) s) (slice_index_or self.old.locks.stations s no_station).hand (slice_index_or self.old.locks.stations s no_station).held (S.Shelf.rows self.old.show) }
+        ensures rows { S.Shelf.rows self.new.show ≡ with_drafts (drafts_of K.Kind.home (D.Shelf.rows self.old.drafts) s) (hand_at self.old.locks.stations s) (length (hand_at self.old.locks.stations s)) (S.Shelf.rows self.old.show) }
         ensures show { Kept S.Shelf.rows S.Shelf.memory S.Shelf.sound self.old.show self.new.show }
         ensures drafts { self.new.drafts ≡ self.old.drafts }
         ensures locks { self.new.locks ≡ self.old.locks }

@@ -1,6 +1,6 @@
 -- A hand of the code beside the hand of the rules.
 use Rattle.std.proofs.Common.{◌≡◌, ℕ, zero, suc, ◌<◌, Bool, true, false, cond, not, ◌&&◌, eqb, List, length, get_or, is_some, MatchOption, Some, None, Option, sym, refl, ap, ◌∙◌, ⊎_elim, arith}
-use Rattle.std.proofs.lemmas.Bool.{cases_lt, eqb-true, eqb-false}
+use Rattle.std.proofs.lemmas.Bool.{false≢true, cases_lt, eqb-true, eqb-false}
 use Rattle.std.specs.Option.{option_map}
 use Rattle.rules.specs.declared.Mode.{Mode}
 use Rattle.rules.specs.declared.Mode.TheVariants.{Shared, Exclusive}
@@ -186,6 +186,11 @@ pub common_by_place : {V : Type 0} (drafts : ℕ → V) (hand : List Hold) (othe
 common_by_place drafts hand other zero = refl
 common_by_place drafts hand other (suc n) =
     or_both (ap (λ b. b && is_some (hold_on (get_or hand n no_hold).at other)) (exclusive_kept (get_or hand n no_hold).mode (drafts n))) (common_by_place drafts hand other n)
+
+-- an exclusive hold has its draft
+pub draft_exclusive : {V : Type 0} (m : Mode) (v : V) → true ≡ conflict Shared m → Some v ≡ draft_for m v
+draft_exclusive Shared v e = absurd (false≢true (sym e))
+draft_exclusive Exclusive v e = refl
 
 -- a draft by another name is that draft renamed
 pub draft_renamed : {V W : Type 0} (f : V → W) (m : Mode) (v : V) → draft_for m (f v) ≡ option_map f (draft_for m v)
