@@ -1,5 +1,5 @@
 -- A hand of the code beside the hand of the rules.
-use Rattle.std.proofs.Common.{◌≡◌, ℕ, zero, suc, ◌+◌, ◌<◌, Bool, true, false, cond, not, ◌&&◌, eqb, List, length, get_or, is_some, IfSome, Some, None, Option, sym, refl, ap, ◌∙◌, add-one, arith, eq-eqb, ne_eqb}
+use Rattle.std.proofs.Common.{◌≡◌, ℕ, zero, suc, ◌+◌, Bool, true, false, cond, not, ◌&&◌, eqb, List, length, get_or, is_some, Some, None, Option, sym, refl, ap, ◌∙◌, add-one, eq-eqb, ne_eqb}
 use Rattle.std.proofs.lemmas.Bool.{false≢true}
 use Rattle.std.specs.Option.{option_map}
 use Rattle.rules.specs.declared.Mode.{Mode}
@@ -38,11 +38,6 @@ mode_kept Exclusive v = refl
 pub exclusive_kept : {V : Type 0} (m : Mode) (v : V) → is_some (draft_for m v) ≡ conflict Shared m
 exclusive_kept Shared v = refl
 exclusive_kept Exclusive v = refl
-
--- a place below n is below n + 1
-pub within_more : (o : Option ℕ) (n : ℕ) → IfSome o (λ k. k < n) → IfSome o (λ k. k < n + 1)
-within_more None n h = tt
-within_more (Some k) n h = omega arith
 
 -- a mapped answer is there where the answer is
 pub mapped_some : {A B : Type 0} (f : A → B) (o : Option A) → is_some (option_map f o) ≡ is_some o

@@ -1,4 +1,6 @@
 pub mod Turns
+pub mod Sets
+pub mod Searches
 pub mod Hands
 pub mod Kept
 pub mod Bonds

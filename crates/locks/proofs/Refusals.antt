@@ -113,13 +113,3 @@ pub commit_bound : (t : LockTable) (s i named : ℕ) → Ok i ≡ admitted s (no
 commit_bound t s i named runs below e =
     after_tests (running_tests t s) (bound_test (table_of t 0) s named ∷ []) (admitted_ok i s (not_running t s) runs).0
     ∙ cond-true (ltb 0 (bonds (bare t.stations) s)) (Some (refusal.Bound (bonds (bare t.stations) s) named)) None (lt-ltb 0 (bonds (bare t.stations) s) (bonds_behind (bare t.stations) s named below e))
-
--- a station that is admitted is one of the sixteen
-pub station_below : (t : LockTable) (s i at records : ℕ) → Ok i ≡ admitted s (no_record t s at records) → i < 16
-station_below t s i at records e = ⊎_elim
-    (λ h. let same = (admitted_ok i s (no_record t s at records) e).1 in omega (arith, same))
-    (λ h. none_some refusal.Station (sym (past h) ∙ (admitted_ok i s (no_record t s at records) e).0))
-    (cases_lt s 16)
-  where
-    past : 16 ≤ s → no_record t s at records ≡ Some refusal.Station
-    past h = cond-true (leb 16 s) (Some refusal.Station) _ (le-leb 16 s h)

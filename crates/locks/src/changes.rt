@@ -3,6 +3,7 @@ ghost use Rattle.std.specs.Prelude.{◌≡◌, ◌+◌, replicate, if◌then◌e
 ghost use Rattle.locks.specs.View.{stamp_at, active_at, member_of};
 ghost use Rattle.locks.specs.Changes.{idle_entry, begins, change, freed, started, awaiting, granted, again, retired_at, wounded_below};
 
+use crate::set::StationSet;
 use crate::station::{Hold, Phase, Station};
 use crate::table::{LAST_STAMP, LockTable};
 use rules::{Mode, Stage};
@@ -106,13 +107,13 @@ impl LockTable {
     }
 
     // The attempts of the members are wounded.
-    pub fn wound(&mut self, members: &[bool; 16])
+    pub fn wound(&mut self, members: &StationSet)
         ensures stations { self.new.stations ≡ wounded_below 16 (member_of members.now) self.old.stations }
         ensures stamps { self.new.next ≡ self.old.next }
         ensures commits { self.new.commits ≡ self.old.commits }
     {
         for s in 0..16usize {
-            if members[s] {
+            if members.contains(s) {
                 let entry = &mut self.stations[s];
                 entry.wound();
             }

@@ -15,29 +15,21 @@ impl LockTable {
     pub(crate) fn stamp(&self, i: usize) -> u32
         ensures { result ≡ stamp_at self.now.stations i }
     {
-        if i < 16 { self.stations[i].stamp() } else { 0 }
+        self.stations.get(i).map_or(0, Station::stamp)
     }
 
     // Whether there is an attempt at station i.
     pub(crate) fn has_attempt(&self, i: usize) -> bool
         ensures { result ≡ active_at self.now.stations i }
     {
-        if i < 16 {
-            self.stations[i].has_attempt()
-        } else {
-            false
-        }
+        self.stations.get(i).map_or(false, Station::has_attempt)
     }
 
     // Whether the attempt of station i was wounded.
     pub fn is_wounded(&self, i: usize) -> bool
         ensures { result ≡ is_wounded (bare self.now.stations i).phase }
     {
-        if i < 16 {
-            self.stations[i].is_wounded()
-        } else {
-            false
-        }
+        self.stations.get(i).map_or(false, Station::is_wounded)
     }
 
     // How many records station i holds: the next hold comes to that place.
@@ -74,23 +66,14 @@ impl LockTable {
         requires { j < 16 }
         ensures { result ≡ binds_on self.now.stations i at mode j }
     {
-        if self.older(j, i) {
-            self.stations[j].conflicts_on(at, mode)
-        } else {
-            false
-        }
+        self.older(j, i) && self.stations[j].conflicts_on(at, mode)
     }
 
     // Whether a station that is older than station i holds the record in a mode that conflicts.
     fn bound_on(&self, i: usize, at: u32, mode: Mode) -> bool
         ensures { result ≡ any_below 16 (binds_on self.now.stations i at mode) }
     {
-        for j in 0..16usize {
-            if self.binds(i, at, mode, j) {
-                return true;
-            }
-        }
-        false
+        (0..16).any(|j| self.binds(i, at, mode, j))
     }
 
     // How many records station i holds on which an older holder has a conflicting mode.
@@ -133,11 +116,6 @@ impl LockTable {
         if i >= 16 {
             return None;
         }
-        for j in 0..16usize {
-            if self.behind_bond(i, j) {
-                return Some(j);
-            }
-        }
-        None
+        (0..16).find(|&j| self.behind_bond(i, j))
     }
 }

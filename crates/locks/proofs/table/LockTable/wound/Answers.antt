@@ -5,7 +5,7 @@ use Rattle.locks.specs.Changes.{wounded, change, wounded_below}
 use Rattle.locks.proofs.Kept.{kept_by, wounded_keeps, wounded_here, wounded_not_here, wounded_none}
 use Rattle.locks.proofs.Turns.{all_turns}
 use Rattle.locks.proofs.table.LockTable.wound.Goals as goal
-use Rattle.locks.proofs.table.LockTable.wound.Goals.{then-members-s, else-members-s}
+use Rattle.locks.proofs.table.LockTable.wound.Goals.{then-contains, else-contains}
 
 pub invariant_of-self : goal.invariant_of-self
 invariant_of-self c =
@@ -18,14 +18,14 @@ loop-s-preserved c =
     let s = c.loop-s.s in
     let before = c.loop-s.self in
     let xs = c.args.self.now.stations in
-    elim c.if-members-s.branch [
-      | then-members-s w ↦ (
-        ap (λ (t : LockTable). t.stations) w.self-is ∙ ap (set before.stations s) w.wound.ensures ∙ ap (change wounded s) c.loop-s.invariant.0 ∙ sym (wounded_here members xs s w.if-members-s.true),
+    elim c.if-contains.branch [
+      | then-contains w ↦ (
+        ap (λ (t : LockTable). t.stations) w.self-is ∙ ap (set before.stations s) w.wound.ensures ∙ ap (change wounded s) c.loop-s.invariant.0 ∙ sym (wounded_here members xs s (sym w.if-contains.ensures)),
         ap (λ (t : LockTable). t.next) w.self-is ∙ c.loop-s.invariant.1,
         ap (λ (t : LockTable). t.commits) w.self-is ∙ c.loop-s.invariant.2,
       )
-      | else-members-s w ↦ (
-        ap (λ (t : LockTable). t.stations) w.self-is ∙ c.loop-s.invariant.0 ∙ sym (wounded_not_here members xs s w.if-members-s.false),
+      | else-contains w ↦ (
+        ap (λ (t : LockTable). t.stations) w.self-is ∙ c.loop-s.invariant.0 ∙ sym (wounded_not_here members xs s (sym w.if-contains.ensures)),
         ap (λ (t : LockTable). t.next) w.self-is ∙ c.loop-s.invariant.1,
         ap (λ (t : LockTable). t.commits) w.self-is ∙ c.loop-s.invariant.2,
       )
