@@ -8,7 +8,6 @@ use Rattle.rules.specs.Operations.{joins, with_member, widen}
 use Rattle.rules.proofs.Searches.{eqb_refl, first_below_passes, count_at_most, count_one_fewer}
 use Rattle.locks.specs.declared.station.Station.{Station}
 use Rattle.locks.specs.View.{bare, no_station, stamp_of}
-use Rattle.locks.specs.Asked.{widen_within}
 
 -- nobody past the sixteen stations is younger
 pub not_younger_past : (xs : List Station) (i j : ℕ) → length xs ≤ j → older (bare xs) i j ≡ false
@@ -17,6 +16,10 @@ not_younger_past xs i j h = ap (λ (x : Station). ltb (bare xs i).stamp (stamp_o
 -- how many stations are no members
 abbrev pub outside : (ℕ → Bool) → ℕ
 outside members = count_below 16 (λ j. not (members j))
+
+-- the set widened by at most n stations
+pub widen_within : {V : Type 0} → Stations V → ℕ → (ℕ → Bool) → ℕ → Bool
+widen_within t n members = until n (λ ms. first_below 16 (joins t ms)) with_member members
 
 module _ {V : Type 0} (t : Stations V) where
   -- the first that joins is taken, with one round fewer left

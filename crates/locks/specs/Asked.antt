@@ -2,9 +2,8 @@
 use Rattle.std.specs.Prelude.{ℕ, ◌<◌, Bool, cond, ◌&&◌, List, Some, None, Option, nat_lt, slice_index_or}
 use Rattle.std.specs.Option.{option_map}
 use Rattle.rules.specs.declared.Mode.{Mode}
-use Rattle.rules.specs.Searches.{first_below, until}
-use Rattle.rules.specs.Tables.{Stations, older, conflicts, hold_on}
-use Rattle.rules.specs.Operations.{exclusive_in_common, older_draft, joins, with_member}
+use Rattle.rules.specs.Tables.{older, conflicts, hold_on}
+use Rattle.rules.specs.Operations.{exclusive_in_common, older_draft}
 use Rattle.locks.specs.declared.granting.Draft.{Draft}
 use Rattle.locks.specs.declared.station.Hold.{Hold}
 use Rattle.locks.specs.declared.station.Station.{Station}
@@ -17,10 +16,6 @@ binds_on stations i r m j = older (bare stations) j i && conflicts m (hold_on r 
 -- is station j a member that is older than station i, and holds a record exclusively that i holds?
 abbrev pub pulls : List Station → (ℕ → Bool) → ℕ → ℕ → Bool
 pulls stations members i j = members j && (older (bare stations) j i && exclusive_in_common (bare stations j).hand (bare stations i).hand)
-
--- the set widened by at most n stations
-unfoldable pub widen_within : {V : Type 0} → Stations V → ℕ → (ℕ → Bool) → ℕ → Bool
-widen_within t n members = until n (λ ms. first_below 16 (joins t ms)) with_member members
 
 -- the younger of two drafts; the first where the stamps are equal
 abbrev pub younger : Draft → Draft → Draft

@@ -32,9 +32,9 @@ impl Phase {
     {
         match self {
             Phase::Idle => None,
-            Phase::Running(stamp) | Phase::Waiting(stamp, ..) | Phase::Wounded(stamp) => Some(
-                stamp,
-            ),
+            Phase::Running(stamp) | Phase::Waiting(stamp, ..) | Phase::Wounded(stamp) => {
+                Some(stamp)
+            }
         }
     }
 

@@ -42,11 +42,11 @@ impl LockTable {
 
     // Whether station j keeps station i from being granted the record: by an owned hold that conflicts, or by an older wait.
     fn blocks(&self, i: usize, at: u32, mode: Mode, j: usize) -> bool
-        requires { j < 16 }
         ensures { result ≡ blocks (bare self.now.stations) i at mode j }
     {
-        let other = &self.stations[j];
-        other.owned_conflicts_on(at, mode) || (other.waits_for(at) && self.older(j, i))
+        self.stations.get(j).map_or(false, |other| {
+            other.owned_conflicts_on(at, mode) || (other.waits_for(at) && self.older(j, i))
+        })
     }
 
     // Whether some station keeps station i from being granted the record.
@@ -76,12 +76,11 @@ impl LockTable {
 
     // The exclusive hold of station j on the record, if j has an attempt that is older than station i.
     fn older_draft(&self, i: usize, at: u32, j: usize) -> Option<Draft>
-        requires { j < 16 }
         ensures { result ≡ stamped_draft self.now.stations i at j }
     {
         let stamp = self.stamp(j);
         if stamp > 0 && self.older(j, i) {
-            let place = self.stations[j].exclusive_on(at)?;
+            let place = self.stations.get(j)?.exclusive_on(at)?;
             Some(Draft {
                 stamp,
                 place: (j, place),

@@ -1,7 +1,7 @@
 // Questions to the whole table. A station number at or past 16 is an idle station in each.
 ghost use Rattle.std.specs.Prelude.{◌≡◌, ◌<◌, ◌≤◌, true, IfSome, MatchOption, slice_index_or};
 ghost use Rattle.rules.specs.Searches.{any_below};
-ghost use Rattle.rules.specs.Tables.{older, is_wounded};
+ghost use Rattle.rules.specs.Tables.{older, is_wounded, conflicts, hold_on};
 ghost use Rattle.rules.specs.Operations.{bonds, behind_bond};
 ghost use Rattle.locks.specs.View.{bare, no_station, stamp_at, active_at};
 ghost use Rattle.locks.specs.Asked.{binds_on, hold_at};
@@ -61,12 +61,20 @@ impl LockTable {
         self.stamp(j) < self.stamp(i)
     }
 
+    // Whether station j holds the record in a mode that conflicts.
+    pub(crate) fn conflicts_on(&self, j: usize, at: u32, mode: Mode) -> bool
+        ensures { result ≡ conflicts mode (hold_on at (bare self.now.stations j).hand) }
+    {
+        self.stations
+            .get(j)
+            .map_or(false, |station| station.conflicts_on(at, mode))
+    }
+
     // Whether station j is older than station i and holds the record in a mode that conflicts.
     fn binds(&self, i: usize, at: u32, mode: Mode, j: usize) -> bool
-        requires { j < 16 }
         ensures { result ≡ binds_on self.now.stations i at mode j }
     {
-        self.older(j, i) && self.stations[j].conflicts_on(at, mode)
+        self.older(j, i) && self.conflicts_on(j, at, mode)
     }
 
     // Whether a station that is older than station i holds the record in a mode that conflicts.

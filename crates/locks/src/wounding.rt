@@ -13,10 +13,9 @@ use rules::Mode;
 impl LockTable {
     // Whether station j is younger than station i and holds the record in a mode that conflicts.
     fn yields(&self, i: usize, at: u32, mode: Mode, j: usize) -> bool
-        requires { j < 16 }
         ensures { result ≡ must_yield (bare self.now.stations) i at mode j }
     {
-        self.older(i, j) && self.stations[j].conflicts_on(at, mode)
+        self.older(i, j) && self.conflicts_on(j, at, mode)
     }
 
     // The younger holders of the record whose mode conflicts with the mode that station i takes.
@@ -28,17 +27,16 @@ impl LockTable {
 
     // Whether station j is a member that is older than station i and holds a record exclusively that station i holds.
     fn pulls(&self, members: &StationSet, i: usize, j: usize) -> bool
-        requires { (i < 16) × (j < 16) }
         ensures { result ≡ pulls self.now.stations (member_of members.now) i j }
     {
-        members.contains(j)
-            && self.older(j, i)
-            && self.stations[j].exclusive_in_common(&self.stations[i])
+        let (Some(other), Some(station)) = (self.stations.get(j), self.stations.get(i)) else {
+            return false;
+        };
+        members.contains(j) && self.older(j, i) && other.exclusive_in_common(station)
     }
 
     // Whether station i, not yet a member, holds a record that an older member holds exclusively.
     fn joins(&self, members: &StationSet, i: usize) -> bool
-        requires { i < 16 }
         ensures { result ≡ joins (bare self.now.stations) (member_of members.now) i }
     {
         !members.contains(i) && (0..16).any(|j| self.pulls(members, i, j))
