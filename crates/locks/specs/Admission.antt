@@ -1,9 +1,6 @@
 -- Which calls the rules admit on the table, with the drafts left out.
 use Rattle.std.specs.Prelude.{◌≡◌, ℕ, ◌<◌, Bool, List, [], ◌∷◌, length, Some, None, Ok, Err, Option, Result}
-use Rattle.rules.specs.declared.Mode.{Mode}
-use Rattle.rules.specs.declared.Mode.TheVariants.{Shared, Exclusive}
 use Rattle.rules.specs.declared.Refusal.{Refusal}
-use Rattle.rules.specs.declared.Refusal.TheVariants as refusal
 use Rattle.rules.specs.declared.Call.{Call}
 use Rattle.rules.specs.Tables.{Table}
 use Rattle.rules.specs.Calls.{refusals, first_refusal, station_test, idle_test, waiting_test, wounded_test, record_test}
@@ -37,11 +34,6 @@ record_tests t s r records = station_test (table_of t 0) s ∷ idle_test (table_
 -- the refusal that these give
 abbrev pub no_record : LockTable → ℕ → ℕ → ℕ → Option Refusal
 no_record t s r records = first_refusal (record_tests t s r records)
-
--- the refusal of a change of a hold in this mode
-abbrev pub shared_refused : Mode → Option Refusal
-shared_refused Shared = Some refusal.Shared
-shared_refused Exclusive = None
 
 -- the answer, unless there is a refusal
 abbrev pub admitted : {A : Type 0} → A → Option Refusal → Result A Refusal

@@ -4,6 +4,7 @@ ghost use Rattle.std.specs.Fn.{FnOnceReturnsAtMut};
 ghost use Rattle.locks.specs.View.{HasRoom, no_station, stamp_at, active_at, member_of};
 ghost use Rattle.locks.specs.Changes.{begins, Change, Keeps, Does, change, freed, started, awaiting, granted, again, retired_at, wounded_below};
 
+use crate::set::StationSet;
 use crate::station::Station;
 use crate::table::{LAST_STAMP, LockTable};
 use rules::Mode;
@@ -92,13 +93,14 @@ impl LockTable {
     }
 
     // The attempts of the members are wounded.
-    pub fn wound(&mut self, members: &[bool; 16])
+    pub fn wound(&mut self, members: &StationSet)
         ensures stations { self.new.stations ≡ wounded_below 16 (member_of members.now) self.old.stations }
         ensures stamps { self.new.next ≡ self.old.next }
         ensures commits { self.new.commits ≡ self.old.commits }
     {
-        for (s, member) in members.iter().enumerate() {
-            if *member {
+        // By station number: after a walk over `iter_mut` the proof would know nothing of the stations.
+        for s in 0..16 {
+            if members.contains(s) {
                 self.change(s, |station| station.wound());
             }
         }

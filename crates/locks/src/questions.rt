@@ -1,7 +1,7 @@
 // Questions to the whole table. A station number at or past 16 is an idle station in each.
 ghost use Rattle.std.specs.Prelude.{◌≡◌, ◌<◌, ◌≤◌, true, length, IfSome, MatchOption, slice_index_or};
 ghost use Rattle.rules.specs.Searches.{any_below};
-ghost use Rattle.rules.specs.Tables.{older, is_wounded};
+ghost use Rattle.rules.specs.Tables.{older, is_wounded, conflicts, hold_on};
 ghost use Rattle.rules.specs.Operations.{bonds, behind_bond};
 ghost use Rattle.locks.specs.View.{bare, no_station, hand_at, stamp_at, active_at};
 ghost use Rattle.locks.specs.Asked.{binds_on, hold_at};
@@ -15,29 +15,21 @@ impl LockTable {
     pub(crate) fn stamp(&self, i: usize) -> u32
         ensures { result ≡ stamp_at self.now.stations i }
     {
-        if i < 16 { self.stations[i].stamp() } else { 0 }
+        self.stations.get(i).map_or(0, Station::stamp)
     }
 
     // Whether there is an attempt at station i.
     pub(crate) fn has_attempt(&self, i: usize) -> bool
         ensures { result ≡ active_at self.now.stations i }
     {
-        if i < 16 {
-            self.stations[i].has_attempt()
-        } else {
-            false
-        }
+        self.stations.get(i).map_or(false, Station::has_attempt)
     }
 
     // Whether the attempt of station i was wounded.
     pub fn is_wounded(&self, i: usize) -> bool
         ensures { result ≡ is_wounded (bare self.now.stations i).phase }
     {
-        if i < 16 {
-            self.stations[i].is_wounded()
-        } else {
-            false
-        }
+        self.stations.get(i).map_or(false, Station::is_wounded)
     }
 
     // How many records station i holds: the next hold comes to that place.
@@ -62,28 +54,27 @@ impl LockTable {
         self.stamp(j) < self.stamp(i)
     }
 
+    // Whether station j holds the record in a mode that conflicts.
+    pub(crate) fn conflicts_on(&self, j: usize, at: u32, mode: Mode) -> bool
+        ensures { result ≡ conflicts mode (hold_on at (bare self.now.stations j).hand) }
+    {
+        self.stations
+            .get(j)
+            .map_or(false, |station| station.conflicts_on(at, mode))
+    }
+
     // Whether station j is older than station i and holds the record in a mode that conflicts.
     fn binds(&self, i: usize, at: u32, mode: Mode, j: usize) -> bool
-        requires { j < 16 }
         ensures { result ≡ binds_on self.now.stations i at mode j }
     {
-        if self.older(j, i) {
-            self.stations[j].conflicts_on(at, mode)
-        } else {
-            false
-        }
+        self.older(j, i) && self.conflicts_on(j, at, mode)
     }
 
     // Whether a station that is older than station i holds the record in a mode that conflicts.
     fn bound_on(&self, i: usize, at: u32, mode: Mode) -> bool
         ensures { result ≡ any_below 16 (binds_on self.now.stations i at mode) }
     {
-        for j in 0..16usize {
-            if self.binds(i, at, mode, j) {
-                return true;
-            }
-        }
-        false
+        (0..16).any(|j| self.binds(i, at, mode, j))
     }
 
     // How many records station i holds on which an older holder has a conflicting mode.
@@ -120,11 +111,6 @@ impl LockTable {
         if i >= 16 {
             return None;
         }
-        for j in 0..16usize {
-            if self.behind_bond(i, j) {
-                return Some(j);
-            }
-        }
-        None
+        (0..16).find(|&j| self.behind_bond(i, j))
     }
 }
