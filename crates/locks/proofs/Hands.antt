@@ -14,21 +14,19 @@ use Rattle.locks.specs.declared.station.Station.{Station}
 use Rattle.locks.specs.View.{no_hold, hold_with, hand_with, place_on, hold_in, held_by}
 use Rattle.locks.proofs.Turns.{or_both}
 
--- the last place of the first n with a hold on record r is the one that is found
-pub last_place : (r : ℕ) (hand : List Hold) (n : ℕ) (o : Option ℕ)
-    → MatchOption o ((j : ℕ) → j < n → (get_or hand j no_hold).at ≡ r → ⊥)
+-- of the first n places, this is the last with a hold on record r, or there is none
+abbrev pub IsLastPlace : ℕ → List Hold → ℕ → Option ℕ → Type 0
+IsLastPlace r hand n o = MatchOption o ((j : ℕ) → j < n → (get_or hand j no_hold).at ≡ r → ⊥)
     (λ k. (k < n) × ((get_or hand k no_hold).at ≡ r) × ((j : ℕ) → k < j → j < n → (get_or hand j no_hold).at ≡ r → ⊥))
-    → o ≡ place_on r hand n
+
+-- it is the place that the rules find
+pub last_place : (r : ℕ) (hand : List Hold) (n : ℕ) (o : Option ℕ) → IsLastPlace r hand n o → o ≡ place_on r hand n
 last_place r hand zero None h = refl
 last_place r hand zero (Some k) h = absurd (let l = h.0 in let no : ⊥ = omega (arith, l) in no)
 last_place r hand (suc n) o h = go (eqb (get_or hand n no_hold).at r) refl o h (last_place r hand n)
   where
-    go : (b : Bool) → eqb (get_or hand n no_hold).at r ≡ b → (o : Option ℕ)
-        → MatchOption o ((j : ℕ) → j < suc n → (get_or hand j no_hold).at ≡ r → ⊥)
-        (λ k. (k < suc n) × ((get_or hand k no_hold).at ≡ r) × ((j : ℕ) → k < j → j < suc n → (get_or hand j no_hold).at ≡ r → ⊥))
-        → ((q : Option ℕ) → MatchOption q ((j : ℕ) → j < n → (get_or hand j no_hold).at ≡ r → ⊥)
-        (λ k. (k < n) × ((get_or hand k no_hold).at ≡ r) × ((j : ℕ) → k < j → j < n → (get_or hand j no_hold).at ≡ r → ⊥)) → q ≡ place_on r hand n)
-        → o ≡ cond b (Some n) (place_on r hand n)
+    go : (b : Bool) → eqb (get_or hand n no_hold).at r ≡ b → (o : Option ℕ) → IsLastPlace r hand (suc n) o
+        → ((q : Option ℕ) → IsLastPlace r hand n q → q ≡ place_on r hand n) → o ≡ cond b (Some n) (place_on r hand n)
     go true e None h ih = absurd (h n (omega arith) (eqb-true _ _ e))
     go true e (Some k) h ih = ⊎_elim (λ l. absurd (h.2 n l (omega arith) (eqb-true _ _ e))) (λ l. let l' = h.0 in ap Some (omega (arith, l, l'))) (cases_lt k n)
     go false e None h ih = ih None (λ j l. h j (omega arith))

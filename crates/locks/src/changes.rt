@@ -11,7 +11,7 @@ use rules::Mode;
 use std::array;
 
 impl LockTable {
-    // Station s, if there is one, is changed.
+    // Station s, if there is one, is changed. The change keeps the room of its hand, and makes no attempt.
     fn change<F: FnOnce(&mut Station)>(&mut self, s: usize, by: F)
         requires callable { (station : _) → HasRoom station.now → F.pre by station }
         requires kept { (f : Change) × Keeps f × Does (λ old new. FnOnceReturnsAtMut F.FnOnce by old tt new) f }
@@ -46,7 +46,8 @@ impl LockTable {
         ensures commits { self.new.commits ≡ self.old.commits }
     {
         let stamp = self.next;
-        if (s < 16) & (stamp <= LAST_STAMP) {
+        if s < 16 && stamp <= LAST_STAMP {
+            // Not by `change`, which makes no attempt.
             self.stations[s].start(stamp);
             self.next = stamp + 1;
         }
