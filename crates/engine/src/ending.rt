@@ -13,7 +13,7 @@ ghost use Rattle.engine.specs.Answers.{as_answer, Ruled, RuledNaming, Kept};
 ghost use Rattle.engine.specs.Promoting.{Served, OnlyStations};
 
 use crate::Engine;
-use locks::wounding::{alone, count_without};
+use locks::set::StationSet;
 use rules::{Mode, Refusal};
 use shelves::shelf::Shelf;
 use values::kind::Kind;
@@ -74,12 +74,12 @@ impl<K: Kind, S: Shelf<K>, D: Shelf<K>> Engine<K, S, D> {
         ensures stations { Served self.old.locks.stations (D.Shelf.rows self.old.drafts) → stations_of K.Kind.home D.Shelf.rows self.new ≡ settle_by_rules (show_of K.Kind.home (S.Shelf.rows self.old.show)) (put (wound (wounded_by_give_up (stations_of K.Kind.home D.Shelf.rows self.old) s) (stations_of K.Kind.home D.Shelf.rows self.old)) s idle_station) }
         ensures rest { OnlyStations D.Shelf.rows D.Shelf.memory D.Shelf.sound self.old self.new }
     {
-        let own = alone(s);
+        let own = StationSet::alone(s);
         let wounded = self.locks.widen(own);
         self.locks.wound(&wounded);
         self.locks.free(s);
         self.settle();
-        count_without(&wounded, &own)
+        wounded.without(&own).count()
     }
 
     // Ends the attempt of a station without a commit; a wounded station becomes idle. Answers how many other attempts were wounded.
