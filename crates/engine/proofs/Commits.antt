@@ -1,7 +1,8 @@
 -- Commit, in the view.
 use Rattle.std.proofs.Common.{◌≡◌, ℕ, zero, suc, ◌+◌, ◌<◌, ◌≤◌, Bool, true, false, cond, not, eqb, List, length, get_or, Some, None, Option, sym, refl, ap, ◌∙◌, subst, ⊎_elim, add-one, arith, length-set, get_or-set_other, get_or-set_same, leb-false}
 use mathlib.Core.Path.{fun_ext}
-use Rattle.std.proofs.lemmas.Bool.{lt-ltb, cases_lt, eqb-true, eqb-false}
+use Rattle.std.proofs.lemmas.Bool.{cases_lt, eqb-true, eqb-false}
+use Rattle.std.proofs.lemmas.Option.{slice_get-get_or}
 use Rattle.rules.specs.declared.Mode.{Mode}
 use Rattle.rules.specs.declared.Mode.TheVariants.{Shared, Exclusive}
 use Rattle.rules.specs.declared.Call.TheVariants.{Commit}
@@ -14,7 +15,7 @@ use Rattle.rules.proofs.Admission.{all_tests_fail, commit_admitted}
 use Rattle.locks.specs.declared.station.Hold.{Hold}
 use Rattle.locks.specs.declared.station.Station.{Station}
 use Rattle.locks.specs.declared.table.LockTable.{LockTable}
-use Rattle.locks.specs.View.{bare, no_hold, no_station, hold_with, hand_with, stations_with, awaited_at, active_at}
+use Rattle.locks.specs.View.{bare, no_hold, hand_at, hold_with, hand_with, stations_with, awaited_at, active_at}
 use Rattle.locks.specs.Asked.{hold_at}
 use Rattle.locks.specs.Admission.{table_with, table_of, refused}
 use Rattle.locks.specs.Changes.{change, freed}
@@ -27,11 +28,11 @@ use Rattle.engine.proofs.Grants.{waits_before}
 use Rattle.engine.proofs.GivesUp.{freed_waits_not, orderly_served}
 
 -- one more draft written
-pub one_draft_more : {V : Type 0} (drafts : ℕ → V) (x : Station) (n : ℕ) (rows these those : List V) → n < x.held → these ≡ with_drafts drafts x.hand n rows
-    → those ≡ with_draft (hold_at x n) (drafts n) these → those ≡ with_drafts drafts x.hand (n + 1) rows
+pub one_draft_more : {V : Type 0} (drafts : ℕ → V) (x : Station) (n : ℕ) (rows these those : List V) → n < length x.hand.items → these ≡ with_drafts drafts x.hand.items n rows
+    → those ≡ with_draft (hold_at x n) (drafts n) these → those ≡ with_drafts drafts x.hand.items (n + 1) rows
 one_draft_more drafts x n rows these those low e f =
-    f ∙ ap (λ (b : Bool). with_draft (cond b (Some (get_or x.hand n no_hold)) None) (drafts n) these) (lt-ltb n x.held low)
-    ∙ ap (with_draft (Some (get_or x.hand n no_hold)) (drafts n)) e ∙ ap (λ (k : ℕ). with_drafts drafts x.hand k rows) (sym (add-one n))
+    f ∙ ap (λ (o : Option Hold). with_draft o (drafts n) these) (slice_get-get_or x.hand.items n no_hold low)
+    ∙ ap (with_draft (Some (get_or x.hand.items n no_hold)) (drafts n)) e ∙ ap (λ (k : ℕ). with_drafts drafts x.hand.items k rows) (sym (add-one n))
 
 module _ {V : Type 0} (home : V) (drafts : ℕ → V) (hand : List Hold) (rows : List V) where
   -- writing a draft keeps the count
@@ -120,7 +121,7 @@ may_name drafts xs s named fence bound =
 
 module _ {V C : Type 0} (apply : V → C → V) (home : V) (show plotted drafts rows : List V) (t u w : LockTable) (s i number named : ℕ)
     (orderly : Orderly (table_from home show drafts t)) (none : refused named (Commit s) t 0 ≡ None) (at_s : i ≡ s)
-    (writes : plotted ≡ with_drafts (drafts_of home drafts i) (get_or t.stations i no_station).hand (get_or t.stations i no_station).held show)
+    (writes : plotted ≡ with_drafts (drafts_of home drafts i) (hand_at t.stations i) (length (hand_at t.stations i)) show)
     (frees : u.stations ≡ change freed i t.stations) (counts : u.commits ≡ cond (active_at t.stations i) (t.commits + 1) t.commits) (tells : number ≡ u.commits)
     (settles : Served u.stations drafts → stations_with (drafts_of home rows) w.stations ≡ settle (show_of home plotted) (stations_with (drafts_of home drafts) u.stations))
     (long : length rows ≡ length drafts) (next : w.next ≡ t.next) (commits : w.commits ≡ u.commits) where
@@ -129,13 +130,13 @@ module _ {V C : Type 0} (apply : V → C → V) (home : V) (show plotted drafts 
   commit_accepted = commit_refusal C (drafts_of home drafts) (show_of home show) t s (records_of (length show) (length drafts)) named ∙ none
 
   -- the rows written, of the station named
-  writes_own : plotted ≡ with_drafts (drafts_of home drafts s) (get_or t.stations s no_station).hand (get_or t.stations s no_station).held show
-  writes_own = writes ∙ ap (λ (j : ℕ). with_drafts (drafts_of home drafts j) (get_or t.stations j no_station).hand (get_or t.stations j no_station).held show) at_s
+  writes_own : plotted ≡ with_drafts (drafts_of home drafts s) (hand_at t.stations s) (length (hand_at t.stations s)) show
+  writes_own = writes ∙ ap (λ (j : ℕ). with_drafts (drafts_of home drafts j) (hand_at t.stations j) (length (hand_at t.stations j)) show) at_s
 
   -- the show has what the station sees
   plotted_seen : show_of home plotted ≡ seen (stations_with (drafts_of home drafts) t.stations s).hand (show_of home show)
   plotted_seen =
-      let hand = (get_or t.stations s no_station).hand in let held = (get_or t.stations s no_station).held in
+      let hand = hand_at t.stations s in let held = length (hand_at t.stations s) in
       ap (show_of home) writes_own
       ∙ fun_ext (drafts_seen home (drafts_of home drafts s) hand show held (orderly.distinct s)
       (λ k l. let h = held_somewhere (drafts_of home drafts s) hand held k l in records_within (length show) (length drafts) (get_or hand k no_hold).at (orderly.held_inside s (get_or hand k no_hold).at h.0 h.1)))
@@ -161,4 +162,4 @@ module _ {V C : Type 0} (apply : V → C → V) (home : V) (show plotted drafts 
   pub committed_table : table_from home plotted rows w ≡ after apply (Commit s) (table_from home show drafts t)
   committed_table =
       table_of_all committed_stations next (commits ∙ committed_number) plotted_seen
-      (ap (λ (n : ℕ). records_of n (length rows)) (ap length writes_own ∙ drafts_length home (drafts_of home drafts s) (get_or t.stations s no_station).hand show (get_or t.stations s no_station).held) ∙ ap (records_of (length show)) long)
+      (ap (λ (n : ℕ). records_of n (length rows)) (ap length writes_own ∙ drafts_length home (drafts_of home drafts s) (hand_at t.stations s) show (length (hand_at t.stations s))) ∙ ap (records_of (length show)) long)

@@ -12,7 +12,7 @@ use Rattle.locks.specs.declared.station.Phase.{Phase}
 use Rattle.locks.specs.declared.station.Phase.TheVariants.{Idle, Running, Waiting, Wounded}
 use Rattle.locks.specs.declared.station.Station.{Station}
 use Rattle.locks.specs.declared.table.LockTable.{LockTable}
-use Rattle.locks.specs.View.{bare, no_station, phase_of, stations_with, awaited_in, awaited_at}
+use Rattle.locks.specs.View.{bare, no_station, hand_at, phase_of, stations_with, awaited_in, awaited_at}
 use Rattle.locks.specs.Changes.{change, granted, granted_in}
 use Rattle.locks.proofs.Drafts.{grantable_same}
 use Rattle.locks.proofs.Kept.{room_at}
@@ -23,20 +23,19 @@ use Rattle.engine.specs.Promoting.{Served, OnlyStations}
 use Rattle.engine.proofs.RowsRead.{draft_written, draft_other}
 
 -- a station and a place have a row
-pub row_fits : (t : LockTable) (s r k : ℕ) (m : Mode) → Some (r, m) ≡ awaited_at t.stations s → k ≡ (get_or t.stations s no_station).held → (s < 16) × (k < 16)
+pub row_fits : (t : LockTable) (s r k : ℕ) (m : Mode) → Some (r, m) ≡ awaited_at t.stations s → k ≡ length (hand_at t.stations s) → (s < 16) × (k < 16)
 row_fits t s r k m waits place =
-    let room = room_at t.stations s r m t.full t.hands t.room waits in
-    let low : s < 16 = room.0 in let wide = t.hands s low in
+    let room = room_at t.stations s r m t.full t.room waits in
     let free = room.1 in
-    (low, omega arith)
+    (room.0, omega (arith, free, place))
 
 module _ {V : Type 0} (home : V) (drafts rows : List V) (t : LockTable) (s r k : ℕ) (m : Mode) (new : V) (waits : Some (r, m) ≡ awaited_at t.stations s)
-    (place : k ≡ (get_or t.stations s no_station).held) (written : rows ≡ set drafts (16 * s + k) new) where
+    (place : k ≡ length (hand_at t.stations s)) (written : rows ≡ set drafts (16 * s + k) new) where
   -- the draft written at the next place is the one that stands there
-  pub draft_started : length drafts ≡ 256 → drafts_of home rows s (get_or t.stations s no_station).held ≡ new
+  pub draft_started : length drafts ≡ 256 → drafts_of home rows s (length (hand_at t.stations s)) ≡ new
   draft_started long =
       let fit = row_fits t s r k m waits place in let low = fit.0 in let small = fit.1 in
-      ap (λ l. drafts_of home l s (get_or t.stations s no_station).held) written ∙ ap (drafts_of home (set drafts (16 * s + k) new) s) (sym place)
+      ap (λ l. drafts_of home l s (length (hand_at t.stations s))) written ∙ ap (drafts_of home (set drafts (16 * s + k) new) s) (sym place)
       ∙ draft_written home drafts s k new small (omega (arith, low, small, long))
 
   -- no hold has that draft yet
@@ -46,8 +45,8 @@ module _ {V : Type 0} (home : V) (drafts rows : List V) (t : LockTable) (s r k :
       drafts_beyond (drafts_of home rows) (drafts_of home drafts) t.stations (λ i n low.
       ap (λ l. drafts_of home l i n) written ∙ draft_other home drafts s k new fit.1 i n (apart i n low))
     where
-      apart : (i n : ℕ) → n < (get_or t.stations i no_station).held → i ≡ s → n ≡ k → ⊥
-      apart i n low same e = let w = ap (λ (j : ℕ). (get_or t.stations j no_station).held) same in omega (arith, low, w, place, e)
+      apart : (i n : ℕ) → n < length (hand_at t.stations i) → i ≡ s → n ≡ k → ⊥
+      apart i n low same e = let w = ap (λ (j : ℕ). length (hand_at t.stations j)) same in omega (arith, low, w, place, e)
 
 -- a change of a station that starts no wait
 abbrev pub NoNewWait : (Station → Station) → Type 0
@@ -79,13 +78,13 @@ module _ {V : Type 0} (these those : ℕ → ℕ → V) (show : ℕ → V) (t : 
   -- the grant of the code is that of the rules
   pub granted_station : (ys : List Station) (r : ℕ) (m : Mode) → Some (r, m) ≡ awaited_at t.stations s → ys ≡ change granted s t.stations
       → stations_with those t.stations ≡ stations_with these t.stations
-      → draft_for m (those s (get_or t.stations s no_station).held) ≡ draft_for m (before (stations_with these t.stations) show s r)
+      → draft_for m (those s (length (hand_at t.stations s))) ≡ draft_for m (before (stations_with these t.stations) show s r)
       → stations_with those ys ≡ grant show s (stations_with these t.stations)
   granted_station ys r m waits e unseen started =
-      let room = room_at t.stations s r m t.full t.hands t.room waits in
+      let room = room_at t.stations s r m t.full t.room waits in
       let low : s < 16 = room.0 in let full : length t.stations ≡ 16 = t.full in
       ap (stations_with those) e
-      ∙ granted_by_rules those t.stations show s r m (omega arith) waits room.1 (started ∙ ap (λ (u : Stations V). draft_for m (before u show s r)) (sym unseen))
+      ∙ granted_by_rules those t.stations show s r m (omega arith) waits (started ∙ ap (λ (u : Stations V). draft_for m (before u show s r)) (sym unseen))
       ∙ ap (grant show s) unseen
 
   -- where the station does not wait, the rules grant nothing

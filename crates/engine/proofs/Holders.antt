@@ -1,14 +1,16 @@
 -- Look and change, in the view: the hold by its place, its draft, and the draft changed.
-use Rattle.std.proofs.Common.{◌≡◌, ℕ, ◌+◌, ◌*◌, ◌<◌, Bool, true, false, cond, not, List, [], ◌∷◌, length, get_or, set, Some, None, Option, sym, refl, ap, ◌∙◌, subst, arith, length-set, lt-ltb, leb-false}
+use Rattle.std.proofs.Common.{◌≡◌, ℕ, ◌+◌, ◌*◌, ◌<◌, Bool, true, false, cond, not, List, [], ◌∷◌, length, get_or, set, Some, None, Option, sym, refl, ap, ◌∙◌, subst, arith, length-set, leb-false}
 use Rattle.std.proofs.lemmas.Bool.{and_parts, eqb-true}
+use Rattle.std.proofs.lemmas.Option.{slice_get-get_or}
 use Rattle.rules.specs.declared.Refusal.{Refusal}
 use Rattle.rules.specs.declared.Mode.TheVariants.{Shared}
 use Rattle.rules.specs.declared.Call.TheVariants.{Look, Change}
 use Rattle.rules.specs.Tables.{Stations, conflict, hold_on, draft_in}
 use Rattle.rules.specs.Operations.{before, or_else, seen}
 use Rattle.rules.specs.Calls.{refusals, first_refusal, after}
+use Rattle.locks.specs.declared.station.Hold.{Hold}
 use Rattle.locks.specs.declared.table.LockTable.{LockTable}
-use Rattle.locks.specs.View.{no_hold, no_station, place_on, stations_with}
+use Rattle.locks.specs.View.{no_hold, no_station, hand_at, place_on, stations_with}
 use Rattle.locks.specs.Asked.{hold_at}
 use Rattle.locks.specs.Admission.{table_with, table_of, refused}
 use Rattle.locks.proofs.Drafts.{look_same, change_same}
@@ -28,15 +30,15 @@ module _ {V : Type 0} (C : Type 0) (drafts : ℕ → ℕ → V) (show : ℕ → 
   change_refusal c e h = ap first_refusal (change_same C (Unit {0}) drafts (λ i k. tt) show (λ q. tt) t m 0 s r c tt) ∙ sym (h ∙ ap (λ (k : ℕ). refused 0 (Change s r tt) t k) e)
 
 -- the draft at the place of a hold is the draft of the hold on its record
-pub draft_there : {V : Type 0} (drafts : ℕ → ℕ → V) (t : LockTable) (i r k : ℕ) → Some k ≡ place_on r (get_or t.stations i no_station).hand (get_or t.stations i no_station).held → k < (get_or t.stations i no_station).held
+pub draft_there : {V : Type 0} (drafts : ℕ → ℕ → V) (t : LockTable) (i r k : ℕ) → Some k ≡ place_on r (hand_at t.stations i) (length (hand_at t.stations i)) → k < length (hand_at t.stations i)
     → draft_of_hold (hold_at (get_or t.stations i no_station) k) (drafts i k) ≡ draft_in (hold_on r (stations_with drafts t.stations i).hand)
 draft_there drafts t i r k place low =
-    ap (λ (b : Bool). draft_of_hold (cond b (Some (get_or (get_or t.stations i no_station).hand k no_hold)) None) (drafts i k)) (lt-ltb k (get_or t.stations i no_station).held low)
-    ∙ sym (draft_at_place (drafts i) r (get_or t.stations i no_station).hand (get_or t.stations i no_station).held ∙ ap (draft_at (drafts i) (get_or t.stations i no_station).hand) (sym place))
+    ap (λ (o : Option Hold). draft_of_hold o (drafts i k)) (slice_get-get_or (hand_at t.stations i) k no_hold low)
+    ∙ sym (draft_at_place (drafts i) r (hand_at t.stations i) (length (hand_at t.stations i)) ∙ ap (draft_at (drafts i) (hand_at t.stations i)) (sym place))
 
 -- what is seen at the place of a hold is what the rules let its station see
 pub looked : {V : Type 0} (drafts : ℕ → ℕ → V) (show : ℕ → V) (t : LockTable) (s r i k : ℕ) (v : V) → i ≡ s
-    → Some k ≡ place_on r (get_or t.stations s no_station).hand (get_or t.stations s no_station).held → k < (get_or t.stations s no_station).held
+    → Some k ≡ place_on r (hand_at t.stations s) (length (hand_at t.stations s)) → k < length (hand_at t.stations s)
     → v ≡ or_else (draft_of_hold (hold_at (get_or t.stations i no_station) k) (drafts i k)) (before (stations_with drafts t.stations) show i r)
     → v ≡ seen (stations_with drafts t.stations s).hand (before (stations_with drafts t.stations) show s) r
 looked drafts show t s r i k v e place low h =
@@ -61,14 +63,14 @@ none_holds [] e = tt
 none_holds (p ∷ ps) e = let h = first_passed p.0 p.1 (first_refusal ps) e in (h.0, none_holds ps h.1)
 
 -- a hold that may be changed is exclusive, and its record is one of the show
-pub changeable : (t : LockTable) (s r k n : ℕ) → refused 0 (Change s r tt) t n ≡ None → Some k ≡ place_on r (get_or t.stations s no_station).hand (get_or t.stations s no_station).held
-    → (s < 16) × (r < n) × (true ≡ conflict Shared (get_or (get_or t.stations s no_station).hand k no_hold).mode)
+pub changeable : (t : LockTable) (s r k n : ℕ) → refused 0 (Change s r tt) t n ≡ None → Some k ≡ place_on r (hand_at t.stations s) (length (hand_at t.stations s))
+    → (s < 16) × (r < n) × (true ≡ conflict Shared (get_or (hand_at t.stations s) k no_hold).mode)
 changeable t s r k n none place =
     let tests = none_holds (refusals {C = Unit {0}} 0 (Change s r tt) (table_of t n)) none in
-    let hand = (get_or t.stations s no_station).hand in (
+    let hand = hand_at t.stations s in (
       leb-false 16 s tests.0,
       leb-false n r tests.1.1.1.1.0,
-      is_exclusive _ (ap (shared_at hand) place ∙ sym (shared_at_place (λ k. tt {0}) r hand (get_or t.stations s no_station).held) ∙ tests.1.1.1.1.1.1.0),
+      is_exclusive _ (ap (shared_at hand) place ∙ sym (shared_at_place (λ k. tt {0}) r hand (length (hand_at t.stations s))) ∙ tests.1.1.1.1.1.1.0),
     )
   where
     is_exclusive : (b : Bool) → not b ≡ false → true ≡ b
@@ -76,7 +78,7 @@ changeable t s r k n none place =
     is_exclusive false e = let z : ◌≡◌ {A = ℕ} 0 1 = cc in absurd (omega arith)
 
 module _ {V C : Type 0} (apply : V → C → V) (home : V) (show drafts rows : List V) (t : LockTable) (c : C) (s r i k n : ℕ) (new : V) (at_s : i ≡ s)
-    (place : Some k ≡ place_on r (get_or t.stations s no_station).hand (get_or t.stations s no_station).held) (small : k < 16)
+    (place : Some k ≡ place_on r (hand_at t.stations s) (length (hand_at t.stations s))) (small : k < 16)
     (none : refused 0 (Change s r tt) t n ≡ None) (records : n ≡ records_of (length show) (length drafts))
     (made : new ≡ apply (drafts_of home drafts i k) c) (written : rows ≡ set drafts (16 * i + k) new) where
   private_row : 16 * s + k < length drafts
@@ -106,6 +108,6 @@ module _ {V C : Type 0} (apply : V → C → V) (home : V) (show drafts rows : L
   changed_answer =
       let h = changeable t s r k n none place in
       sym (ap (λ (u : Stations V). seen (u s).hand (show_of home show) r) (sym redrafted_stations)
-      ∙ ap (λ o. or_else o (show_of home show r)) (draft_at_place (drafts_of home rows s) r (get_or t.stations s no_station).hand (get_or t.stations s no_station).held ∙ ap (draft_at (drafts_of home rows s) (get_or t.stations s no_station).hand) (sym place)
-      ∙ sym (draft_exclusive (get_or (get_or t.stations s no_station).hand k no_hold).mode (drafts_of home rows s k) h.2))
+      ∙ ap (λ o. or_else o (show_of home show r)) (draft_at_place (drafts_of home rows s) r (hand_at t.stations s) (length (hand_at t.stations s)) ∙ ap (draft_at (drafts_of home rows s) (hand_at t.stations s)) (sym place)
+      ∙ sym (draft_exclusive (get_or (hand_at t.stations s) k no_hold).mode (drafts_of home rows s k) h.2))
       ∙ new_draft)

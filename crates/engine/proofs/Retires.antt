@@ -1,5 +1,5 @@
 -- Retire, in the view.
-use Rattle.std.proofs.Common.{◌≡◌, ℕ, ◌<◌, Bool, not, ◌&&◌, List, length, get_or, None, Option, sym, refl, ap, ◌∙◌, arith, leb-false}
+use Rattle.std.proofs.Common.{◌≡◌, ℕ, ◌<◌, Bool, not, ◌&&◌, List, length, None, Option, sym, refl, ap, ◌∙◌, arith, leb-false}
 use Rattle.rules.specs.declared.Refusal.{Refusal}
 use Rattle.rules.specs.declared.Call.TheVariants.{Look, Retire}
 use Rattle.rules.specs.declared.Answer.TheVariants.{Number}
@@ -9,7 +9,7 @@ use Rattle.rules.specs.Operations.{settle}
 use Rattle.rules.specs.Calls.{refusals, first_refusal, after, answer}
 use Rattle.rules.proofs.Admission.{all_tests_fail}
 use Rattle.locks.specs.declared.table.LockTable.{LockTable}
-use Rattle.locks.specs.View.{bare, no_station, stations_with, member_of}
+use Rattle.locks.specs.View.{bare, stations_with, member_of}
 use Rattle.locks.specs.Admission.{table_with, refused, HoldOf}
 use Rattle.locks.specs.Changes.{change, retired_at}
 use Rattle.locks.proofs.Drafts.{retire_same}
@@ -38,11 +38,9 @@ module _ {V C : Type 0} (apply : V → C → V) (home : V) (show drafts rows : L
   retired_stations =
       let tests = all_tests_fail (refusals {C = C} 0 (Retire s r) (table_from home show drafts t)) retire_accepted in
       let low : s < 16 = leb-false 16 s tests.0 in let full : length t.stations ≡ 16 = t.full in
-      let wide : length (get_or t.stations s no_station).hand ≡ 16 = t.hands s low in
-      let room = t.room s low in let below = hold.place_below in
       settles (fit_served u.stations drafts (length show) r (records_of (length show) (length drafts)) refl (leb-false (records_of (length show) (length drafts)) r tests.1.1.1.1.0))
       ∙ ap (λ l. settle (show_of home show) (stations_with (drafts_of home drafts) l)) (retires ∙ ap (λ (j : ℕ). change (retired_at k) j t.stations) hold.station)
-      ∙ ap (settle (show_of home show)) (retired_view (drafts_of home drafts) t.stations s r k (omega arith) (sym hold.place) (omega (arith, wide, room, below)))
+      ∙ ap (settle (show_of home show)) (retired_view (drafts_of home drafts) t.stations s r k (omega arith) (sym hold.place))
 
   -- and so is the table
   pub retired_table : table_from home show rows w ≡ after apply (Retire s r) (table_from home show drafts t)

@@ -14,7 +14,7 @@ use Rattle.rules.proofs.Admission.{all_tests_fail, take_admitted}
 use Rattle.rules.proofs.Spared.{taker_spared}
 use Rattle.locks.specs.declared.station.Station as code
 use Rattle.locks.specs.declared.table.LockTable.{LockTable}
-use Rattle.locks.specs.View.{bare, no_station, stations_with, member_of, active}
+use Rattle.locks.specs.View.{bare, no_station, hand_at, stations_with, member_of, active}
 use Rattle.locks.specs.Admission.{table_with, refused}
 use Rattle.locks.specs.Changes.{change, awaiting, wounded_below}
 use Rattle.locks.proofs.Drafts.{take_same, widen_same, must_yield_same}
@@ -66,7 +66,7 @@ module _ {V : Type 0} (drafts : ℕ → ℕ → V) (t : LockTable) (s r : ℕ) (
   taken_view low runs room =
       let ys = wounded_below 16 (member_of members) t.stations in
       let long : length ys ≡ 16 = wounded_length (member_of members) t.stations 16 ∙ t.full in
-      let held = hand_length (drafts s) (get_or ys s no_station).hand (get_or ys s no_station).held in
+      let held = hand_length (drafts s) (hand_at ys s) (length (hand_at ys s)) in
       let same = ap (λ (x : Station V). length x.hand) taker_same in
       awaiting_view drafts ys s r m (omega (arith, low, long)) (ap (λ (x : Station V). x.phase) taker_same ∙ runs) (omega (arith, held, same, room))
       ∙ ap (λ (u : Stations V). add_wait u s r m) after_wounding

@@ -1,19 +1,19 @@
 // Commit and give up.
-ghost use Rattle.std.specs.Prelude.{◌≡◌, ◌<◌, true, false, not, ◌&&◌, is_ok, ◌==◌, slice_index_or};
+ghost use Rattle.std.specs.Prelude.{◌≡◌, ◌<◌, true, false, not, ◌&&◌, is_ok, ◌==◌, length, slice_index_or};
 ghost use Rattle.rules.specs.declared.Answer.TheVariants.{Number, Committed};
 ghost use Rattle.rules.specs.declared.Call.TheVariants.{Commit, GiveUp};
 ghost use Rattle.rules.specs.Searches.{count_below};
 ghost use Rattle.rules.specs.Tables.{idle_station, put};
 ghost use Rattle.rules.specs.Operations.{wound, wounded_by_give_up, settle as settle_by_rules};
 ghost use Rattle.rules.specs.Orderly.{Orderly};
-ghost use Rattle.locks.specs.View.{no_station, active_at};
+ghost use Rattle.locks.specs.View.{no_station, hand_at, active_at};
 ghost use Rattle.locks.specs.Asked.{hold_at};
 ghost use Rattle.engine.specs.View.{show_of, drafts_of, stations_of, with_draft, with_drafts, view};
 ghost use Rattle.engine.specs.Answers.{as_answer, Ruled, RuledNaming, Kept};
 ghost use Rattle.engine.specs.Promoting.{Served, OnlyStations};
 
 use crate::Engine;
-use locks::wounding::{alone, count_without};
+use locks::set::StationSet;
 use rules::{Mode, Refusal};
 use shelves::shelf::Shelf;
 use values::kind::Kind;
@@ -41,7 +41,7 @@ impl<K: Kind, S: Shelf<K>, D: Shelf<K>> Engine<K, S, D> {
     // Writes the drafts of station s to the show.
     fn write_drafts(&mut self, s: usize)
         requires { s < 16 }
-        ensures rows { S.Shelf.rows self.new.show ≡ with_drafts (drafts_of K.Kind.home (D.Shelf.rows self.old.drafts) s) (slice_index_or self.old.locks.stations s no_station).hand (slice_index_or self.old.locks.stations s no_station).held (S.Shelf.rows self.old.show) }
+        ensures rows { S.Shelf.rows self.new.show ≡ with_drafts (drafts_of K.Kind.home (D.Shelf.rows self.old.drafts) s) (hand_at self.old.locks.stations s) (length (hand_at self.old.locks.stations s)) (S.Shelf.rows self.old.show) }
         ensures show { Kept S.Shelf.rows S.Shelf.memory S.Shelf.sound self.old.show self.new.show }
         ensures drafts { self.new.drafts ≡ self.old.drafts }
         ensures locks { self.new.locks ≡ self.old.locks }
@@ -74,12 +74,12 @@ impl<K: Kind, S: Shelf<K>, D: Shelf<K>> Engine<K, S, D> {
         ensures stations { Served self.old.locks.stations (D.Shelf.rows self.old.drafts) → stations_of K.Kind.home D.Shelf.rows self.new ≡ settle_by_rules (show_of K.Kind.home (S.Shelf.rows self.old.show)) (put (wound (wounded_by_give_up (stations_of K.Kind.home D.Shelf.rows self.old) s) (stations_of K.Kind.home D.Shelf.rows self.old)) s idle_station) }
         ensures rest { OnlyStations D.Shelf.rows D.Shelf.memory D.Shelf.sound self.old self.new }
     {
-        let own = alone(s);
+        let own = StationSet::alone(s);
         let wounded = self.locks.widen(own);
         self.locks.wound(&wounded);
         self.locks.free(s);
         self.settle();
-        count_without(&wounded, &own)
+        wounded.without(&own).count()
     }
 
     // Ends the attempt of a station without a commit; a wounded station becomes idle. Answers how many other attempts were wounded.

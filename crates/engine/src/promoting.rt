@@ -1,7 +1,7 @@
 // Promoting: waits become holds, until no wait may be granted.
 ghost use Rattle.std.specs.Prelude.{◌≡◌, ◌<◌, length, Some, slice_index_or};
 ghost use Rattle.rules.specs.Operations.{before, draft_for, grant as grant_by_rules, settle as settle_by_rules};
-ghost use Rattle.locks.specs.View.{awaited_at, no_station};
+ghost use Rattle.locks.specs.View.{awaited_at, hand_at};
 ghost use Rattle.engine.specs.View.{show_of, drafts_of, stations_of};
 ghost use Rattle.engine.specs.Promoting.{Served, OnlyStations};
 
@@ -15,7 +15,7 @@ impl<K: Kind, S: Shelf<K>, D: Shelf<K>> Engine<K, S, D> {
     // The draft of the hold that station s is about to be granted: an exclusive one starts as what stands before it.
     fn start_draft(&mut self, s: usize, at: u32, mode: Mode)
         requires { Some (at, mode) ≡ awaited_at self.old.locks.stations s }
-        ensures draft { length (D.Shelf.rows self.old.drafts) ≡ 256 → draft_for mode (drafts_of K.Kind.home (D.Shelf.rows self.new.drafts) s (slice_index_or self.old.locks.stations s no_station).held) ≡ draft_for mode (before (stations_of K.Kind.home D.Shelf.rows self.old) (show_of K.Kind.home (S.Shelf.rows self.old.show)) s at) }
+        ensures draft { length (D.Shelf.rows self.old.drafts) ≡ 256 → draft_for mode (drafts_of K.Kind.home (D.Shelf.rows self.new.drafts) s (length (hand_at self.old.locks.stations s))) ≡ draft_for mode (before (stations_of K.Kind.home D.Shelf.rows self.old) (show_of K.Kind.home (S.Shelf.rows self.old.show)) s at) }
         ensures stations { stations_of K.Kind.home D.Shelf.rows self.new ≡ stations_of K.Kind.home D.Shelf.rows self.old }
         ensures locks { self.new.locks ≡ self.old.locks }
         ensures rest { OnlyStations D.Shelf.rows D.Shelf.memory D.Shelf.sound self.old self.new }

@@ -9,7 +9,6 @@ ghost use Rattle.engine.specs.View.{view};
 ghost use Rattle.engine.specs.Answers.{as_answer, taken, Ruled, Kept};
 
 use crate::Engine;
-use locks::wounding::{count, count_without};
 use rules::{Mode, Outcome, Refusal};
 use shelves::shelf::Shelf;
 use values::kind::Kind;
@@ -39,7 +38,7 @@ impl<K: Kind, S: Shelf<K>, D: Shelf<K>> Engine<K, S, D> {
         self.locks.wound(&wounded);
         self.locks.wait(s, at, mode);
         self.settle();
-        Ok((self.outcome(s), count(&wounded)))
+        Ok((self.outcome(s), wounded.count()))
     }
 
     // Turns an owned hold to retired and settles. Answers how many waits were granted.
@@ -54,6 +53,6 @@ impl<K: Kind, S: Shelf<K>, D: Shelf<K>> Engine<K, S, D> {
         let waited = self.locks.waiting();
         self.locks.retire(s, k);
         self.settle();
-        Ok(count_without(&waited, &self.locks.waiting()))
+        Ok(waited.without(&self.locks.waiting()).count())
     }
 }

@@ -1,8 +1,8 @@
 -- What each change of the stations is in the view, for every kind of draft.
-use Rattle.std.proofs.Common.{◌≡◌, ℕ, zero, suc, ◌+◌, ◌<◌, ◌≤◌, Bool, true, false, cond, not, ◌&&◌, eqb, ltb, List, [], ◌∷◌, length, get_or, set, replicate, Some, sym, refl, ap, ◌∙◌, ⊎_elim, add-one, arith, length-set, get_or-set_other, get_or-set_same}
+use Rattle.std.proofs.Common.{◌≡◌, ℕ, zero, suc, ◌<◌, ◌≤◌, Bool, true, false, cond, not, ◌&&◌, eqb, ltb, List, [], ◌∷◌, ◌++◌, length, get_or, set, replicate, Some, sym, refl, ap, ◌∙◌, ⊎_elim, add-one, arith, length-set, get_or-set_other, get_or-set_same}
 use mathlib.Core.Path.{fun_ext}
 use Rattle.std.proofs.lemmas.Bool.{cases_eq, cases_lt, eq-eqb, ne_eqb, eqb-true, cond-true, cond-false, lt-ltb, le-ltb, ltb-true, and_parts, and_from, and_right, or_cases, false≢true}
-use Rattle.std.proofs.lemmas.List.{get_or_past, get_or-replicate}
+use Rattle.std.proofs.lemmas.List.{get_or_past, get_or-replicate, get_or_append_left, get_or_push, length_push}
 use Rattle.rules.specs.declared.Mode.{Mode}
 use Rattle.rules.specs.declared.Mode.TheVariants.{Shared, Exclusive}
 use Rattle.rules.specs.declared.Stage.TheVariants.{Owned}
@@ -16,18 +16,26 @@ use Rattle.locks.specs.declared.station.Hold.{Hold}
 use Rattle.locks.specs.declared.station.Phase.{Phase}
 use Rattle.locks.specs.declared.station.Phase.TheVariants.{Idle, Running, Waiting, Wounded}
 use Rattle.locks.specs.declared.station.Station.{Station}
-use Rattle.locks.specs.View.{no_hold, no_station, phase_of, stamp_of, active, hold_with, hand_with, station_with, stations_with, place_on, awaited_in, awaited_at}
-use Rattle.locks.specs.Changes.{idle_entry, in_phase, freed, started, wounded, wounded_phase, awaiting, waiting_in, granted, granted_in, again, again_in, retired_hold, retired_at, change, wounded_below}
+use Rattle.locks.specs.View.{no_hold, no_station, phase_of, stamp_of, active, hold_with, hand_with, station_with, stations_with, hand_at, place_on, awaited_in, awaited_at}
+use Rattle.locks.specs.Changes.{in_phase, freed, started, wounded, wounded_phase, awaiting, waiting_in, granted, granted_in, again, again_in, retired_hold, retired_at, change, wounded_below}
 use Rattle.locks.proofs.Kept.{active_below}
 
 -- Hands.
 
--- what stands from place n on does not matter to the first n
-pub hand_beyond : {V : Type 0} (drafts : ℕ → V) (hand : List Hold) (n k : ℕ) (h : Hold) → n ≤ k → hand_with drafts (set hand k h) n ≡ hand_with drafts hand n
-hand_beyond drafts hand zero k h l = refl
-hand_beyond drafts hand (suc n) k h l =
-    ap (λ x. hold_with (drafts n) x ∷ hand_with drafts (set hand k h) n) (get_or-set_other hand k n h no_hold (λ e. absurd (let no : ⊥ = omega arith in no)))
-    ∙ ap (λ hs. hold_with (drafts n) (get_or hand n no_hold) ∷ hs) (hand_beyond drafts hand n k h (omega arith))
+-- what is appended does not matter to the holds before it
+pub hand_before : {V : Type 0} (drafts : ℕ → V) (hand more : List Hold) (n : ℕ) → n ≤ length hand → hand_with drafts (hand ++ more) n ≡ hand_with drafts hand n
+hand_before drafts hand more zero l = refl
+hand_before drafts hand more (suc n) l =
+    ap (λ x. hold_with (drafts n) x ∷ hand_with drafts (hand ++ more) n) (get_or_append_left hand more no_hold n (omega arith))
+    ∙ ap (λ hs. hold_with (drafts n) (get_or hand n no_hold) ∷ hs) (hand_before drafts hand more n (omega arith))
+
+-- one hold more, the newest
+pub hand_grown : {V : Type 0} (drafts : ℕ → V) (hand : List Hold) (h : Hold)
+    → hand_with drafts (hand ++ h ∷ []) (length (hand ++ h ∷ [])) ≡ hold_with (drafts (length hand)) h ∷ hand_with drafts hand (length hand)
+hand_grown drafts hand h =
+    ap (hand_with drafts (hand ++ h ∷ [])) (length_push hand h ∙ add-one (length hand))
+    ∙ ap (λ x. hold_with (drafts (length hand)) x ∷ hand_with drafts (hand ++ h ∷ []) (length hand)) (get_or_push hand h no_hold (length hand) refl)
+    ∙ ap (λ hs. hold_with (drafts (length hand)) h ∷ hs) (hand_before drafts hand (h ∷ []) (length hand) (omega arith))
 
 -- drafts that agree on the first n places make the same hand
 pub hand_same : {V : Type 0} (these those : ℕ → V) (hand : List Hold) (n : ℕ) → ((k : ℕ) → k < n → these k ≡ those k) → hand_with these hand n ≡ hand_with those hand n
@@ -112,7 +120,7 @@ module _ {V : Type 0} (drafts : ℕ → ℕ → V) (xs : List Station) where
       go (Wounded s) w = refl
 
   -- a running station with room in its hand waits
-  pub awaiting_view : (i r : ℕ) (m : Mode) → i < length xs → (stations_with drafts xs i).phase ≡ rules.running → (get_or xs i no_station).held < 16
+  pub awaiting_view : (i r : ℕ) (m : Mode) → i < length xs → (stations_with drafts xs i).phase ≡ rules.running → length (hand_at xs i) < 16
       → stations_with drafts (change (awaiting r m) i xs) ≡ put (stations_with drafts xs) i (waiting_station (stations_with drafts xs i) r m)
   awaiting_view i r m h p l = put_view i (awaiting r m (get_or xs i no_station)) h ∙ ap (put (stations_with drafts xs) i) (go (get_or xs i no_station).phase p)
     where
@@ -120,17 +128,17 @@ module _ {V : Type 0} (drafts : ℕ → ℕ → V) (xs : List Station) where
       s = get_or xs i no_station
 
       go : (q : Phase) → phase_of q ≡ rules.running
-          → station_with (drafts i) (waiting_in q r m s) ≡ record { phase = rules.waiting r m; stamp = stamp_of q; hand = hand_with (drafts i) s.hand s.held }
+          → station_with (drafts i) (waiting_in q r m s) ≡ record { phase = rules.waiting r m; stamp = stamp_of q; hand = hand_with (drafts i) s.hand.items (length s.hand.items) }
       go Idle e = absurd (let z : ◌≡◌ {A = ℕ} 0 1 = cc in omega arith)
       go (Waiting t q n) e = absurd (let z : ◌≡◌ {A = ℕ} 0 1 = cc in omega arith)
       go (Wounded t) e = absurd (let z : ◌≡◌ {A = ℕ} 0 1 = cc in omega arith)
-      go (Running t) e = ap (station_with (drafts i)) (cond-true (ltb s.held 16) (in_phase (Waiting t r m) s.held s) s (lt-ltb s.held 16 l))
+      go (Running t) e = ap (station_with (drafts i)) (cond-true (ltb (length s.hand.items) 16) (in_phase (Waiting t r m) s.hand.items) s (lt-ltb (length s.hand.items) 16 l))
 
   -- a granted station runs, with the draft that stands at the place kept for the hold
-  pub granted_view : (i r : ℕ) (m : Mode) → i < length xs → Some (r, m) ≡ awaited_at xs i → (get_or xs i no_station).held < length (get_or xs i no_station).hand
+  pub granted_view : (i r : ℕ) (m : Mode) → i < length xs → Some (r, m) ≡ awaited_at xs i
       → stations_with drafts (change granted i xs)
-      ≡ put (stations_with drafts xs) i (granted_station (stations_with drafts xs i) r m (drafts i (get_or xs i no_station).held))
-  granted_view i r m h w l = put_view i (granted (get_or xs i no_station)) h ∙ ap (put (stations_with drafts xs) i) (go (get_or xs i no_station).phase w)
+      ≡ put (stations_with drafts xs) i (granted_station (stations_with drafts xs i) r m (drafts i (length (hand_at xs i))))
+  granted_view i r m h w = put_view i (granted s) h ∙ ap (put (stations_with drafts xs) i) (go s.phase w)
     where
       s : Station
       s = get_or xs i no_station
@@ -138,14 +146,8 @@ module _ {V : Type 0} (drafts : ℕ → ℕ → V) (xs : List Station) where
       hold : Hold
       hold = record { at = r; mode = m; stage = Owned }
 
-      hand_grown : hand_with (drafts i) (set s.hand s.held hold) (s.held + 1) ≡ hold_with (drafts i s.held) hold ∷ hand_with (drafts i) s.hand s.held
-      hand_grown =
-          ap (hand_with (drafts i) (set s.hand s.held hold)) (add-one s.held)
-          ∙ ap (λ x. hold_with (drafts i s.held) x ∷ hand_with (drafts i) (set s.hand s.held hold) s.held) (get_or-set_same s.hand s.held hold no_hold l)
-          ∙ ap (λ hs. hold_with (drafts i s.held) hold ∷ hs) (hand_beyond (drafts i) s.hand s.held s.held hold (omega arith))
-
       go : (p : Phase) → Some (r, m) ≡ awaited_in p
-          → station_with (drafts i) (granted_in p s) ≡ running_station (stamp_of p) (hold_with (drafts i s.held) hold ∷ hand_with (drafts i) s.hand s.held)
+          → station_with (drafts i) (granted_in p s) ≡ running_station (stamp_of p) (hold_with (drafts i (length s.hand.items)) hold ∷ hand_with (drafts i) s.hand.items (length s.hand.items))
       go Idle e = absurd (let z : ◌≡◌ {A = ℕ} 0 1 = cc in omega arith)
       go (Running t) e = absurd (let z : ◌≡◌ {A = ℕ} 0 1 = cc in omega arith)
       go (Wounded t) e = absurd (let z : ◌≡◌ {A = ℕ} 0 1 = cc in omega arith)
@@ -153,41 +155,41 @@ module _ {V : Type 0} (drafts : ℕ → ℕ → V) (xs : List Station) where
           let rq : q ≡ r = ap (λ (p : ℕ × Mode). p.0) (sym (some_same e)) in
           let mn : n ≡ m = ap (λ (p : ℕ × Mode). p.1) (sym (some_same e)) in
           ap (λ x. station_with (drafts i) (granted_in (Waiting t x n) s)) rq ∙ ap (λ x. station_with (drafts i) (granted_in (Waiting t r x) s)) mn
-          ∙ ap (running_station t) hand_grown
+          ∙ ap (running_station t) (hand_grown (drafts i) s.hand.items hold)
 
   -- the hold at its place retired is the hold on its record retired
-  pub retired_view : (i r k : ℕ) → i < length xs → place_on r (get_or xs i no_station).hand (get_or xs i no_station).held ≡ Some k
-      → k < length (get_or xs i no_station).hand
+  pub retired_view : (i r k : ℕ) → i < length xs → place_on r (hand_at xs i) (length (hand_at xs i)) ≡ Some k
       → stations_with drafts (change (retired_at k) i xs)
       ≡ put (stations_with drafts xs) i (with_hand (stations_with drafts xs i) (adjust r retired (stations_with drafts xs i).hand))
-  retired_view i r k h p l = put_view i (retired_at k (get_or xs i no_station)) h
+  retired_view i r k h p = put_view i (retired_at k (get_or xs i no_station)) h
       ∙ ap (λ hs. put (stations_with drafts xs) i (with_hand (stations_with drafts xs i) hs))
-      (adjusted retired (drafts i) (drafts i) r s.hand (set s.hand k x) s.held k p
-      (ap (hold_with (drafts i k)) (get_or-set_same s.hand k x no_hold l)) (λ j ne. (get_or-set_other s.hand k j x no_hold ne, refl)))
+      (ap (hand_with (drafts i) (set hand k x)) (length-set hand k x)
+      ∙ adjusted retired (drafts i) (drafts i) r hand (set hand k x) (length hand) k p
+      (ap (hold_with (drafts i k)) (get_or-set_same hand k x no_hold (place_within r hand (length hand) k p))) (λ j ne. (get_or-set_other hand k j x no_hold ne, refl)))
     where
-      s : Station
-      s = get_or xs i no_station
+      hand : List Hold
+      hand = hand_at xs i
 
       x : Hold
-      x = retired_hold (get_or s.hand k no_hold)
+      x = retired_hold (get_or hand k no_hold)
 
   -- a new table is idle everywhere
-  pub new_view : (i : ℕ) → stations_with drafts (replicate 16 idle_entry) i ≡ idle_station
-  new_view i = ⊎_elim
-      (λ (h : i < 16). ap (station_with (drafts i)) (get_or-replicate 16 i idle_entry no_station h))
-      (λ (h : 16 ≤ i). ap (station_with (drafts i)) (get_or_past (replicate 16 idle_entry) i no_station h))
-      (cases_lt i 16)
+  pub new_view : (i : ℕ) → stations_with drafts (replicate 16 no_station) i ≡ idle_station
+  new_view i = ap (station_with (drafts i)) (⊎_elim
+      (λ (h : i < 16). get_or-replicate 16 i no_station no_station h)
+      (λ (h : 16 ≤ i). get_or_past (replicate 16 no_station) i no_station h)
+      (cases_lt i 16))
 
 -- the view does not see drafts past the holds
-pub drafts_beyond : {V : Type 0} (these those : ℕ → ℕ → V) (xs : List Station) → ((i k : ℕ) → k < (get_or xs i no_station).held → these i k ≡ those i k)
+pub drafts_beyond : {V : Type 0} (these those : ℕ → ℕ → V) (xs : List Station) → ((i k : ℕ) → k < length (hand_at xs i) → these i k ≡ those i k)
     → stations_with these xs ≡ stations_with those xs
 drafts_beyond these those xs agree = fun_ext (λ i.
     ap (λ hs. record { phase = phase_of (get_or xs i no_station).phase; stamp = stamp_of (get_or xs i no_station).phase; hand = hs })
-    (hand_same (these i) (those i) (get_or xs i no_station).hand (get_or xs i no_station).held (agree i)))
+    (hand_same (these i) (those i) (hand_at xs i) (length (hand_at xs i)) (agree i)))
 
 -- a draft changed at the place of a hold is the hold on its record redrafted
 pub redrafted_view : {V : Type 0} (f : V → V) (these those : ℕ → ℕ → V) (xs : List Station) (i r k : ℕ)
-    → place_on r (get_or xs i no_station).hand (get_or xs i no_station).held ≡ Some k → those i k ≡ f (these i k)
+    → place_on r (hand_at xs i) (length (hand_at xs i)) ≡ Some k → those i k ≡ f (these i k)
     → ((j n : ℕ) → (j ≡ i → n ≡ k → ⊥) → those j n ≡ these j n)
     → stations_with those xs ≡ put (stations_with these xs) i (with_hand (stations_with these xs i) (adjust r (redrafted f) (stations_with these xs i).hand))
 redrafted_view {V} f these those xs i r k p here there = fun_ext (λ j. ⊎_elim (at_i j) (elsewhere j) (cases_eq j i))
@@ -203,33 +205,32 @@ redrafted_view {V} f these those xs i r k p here there = fun_ext (λ j. ⊎_elim
     redrafts Shared = refl
     redrafts Exclusive = refl
 
-    there_i : (n : ℕ) → (n ≡ k → ⊥) → (get_or s.hand n no_hold ≡ get_or s.hand n no_hold) × (those i n ≡ these i n)
+    there_i : (n : ℕ) → (n ≡ k → ⊥) → (get_or s.hand.items n no_hold ≡ get_or s.hand.items n no_hold) × (those i n ≡ these i n)
     there_i n ne = (refl, there i n (λ _ e. ne e))
 
     at_i : (j : ℕ) → j ≡ i → stations_with those xs j ≡ put (stations_with these xs) i after j
     at_i j e =
         ap (stations_with those xs) e
         ∙ ap (λ hs. record { phase = phase_of s.phase; stamp = stamp_of s.phase; hand = hs })
-        (adjusted (redrafted f) (these i) (those i) r s.hand s.hand s.held k p
-        (ap (λ v. hold_with v (get_or s.hand k no_hold)) here
-        ∙ ap (λ d. record { record_number = (get_or s.hand k no_hold).at; draft = d; stage = (get_or s.hand k no_hold).stage }) (redrafts (get_or s.hand k no_hold).mode))
+        (adjusted (redrafted f) (these i) (those i) r s.hand.items s.hand.items (length s.hand.items) k p
+        (ap (λ v. hold_with v (get_or s.hand.items k no_hold)) here
+        ∙ ap (λ d. record { record_number = (get_or s.hand.items k no_hold).at; draft = d; stage = (get_or s.hand.items k no_hold).stage }) (redrafts (get_or s.hand.items k no_hold).mode))
         there_i)
         ∙ sym (cond-true (eqb j i) after (stations_with these xs j) (eq-eqb j i e))
 
     elsewhere : (j : ℕ) → (j ≡ i → ⊥) → stations_with those xs j ≡ put (stations_with these xs) i after j
     elsewhere j ne =
         ap (λ hs. record { phase = phase_of (get_or xs j no_station).phase; stamp = stamp_of (get_or xs j no_station).phase; hand = hs })
-        (hand_same (those j) (these j) (get_or xs j no_station).hand (get_or xs j no_station).held (λ n _. there j n (λ e _. ne e)))
+        (hand_same (those j) (these j) (hand_at xs j) (length (hand_at xs j)) (λ n _. there j n (λ e _. ne e)))
         ∙ sym (cond-false (eqb j i) after (stations_with these xs j) (ne_eqb j i ne))
 
 -- a station granted with what stands before it is granted by the rules
 pub granted_by_rules : {V : Type 0} (drafts : ℕ → ℕ → V) (xs : List Station) (show : ℕ → V) (i r : ℕ) (m : Mode) → i < length xs → Some (r, m) ≡ awaited_at xs i
-    → (get_or xs i no_station).held < length (get_or xs i no_station).hand
-    → draft_for m (drafts i (get_or xs i no_station).held) ≡ draft_for m (before (stations_with drafts xs) show i r)
+    → draft_for m (drafts i (length (hand_at xs i))) ≡ draft_for m (before (stations_with drafts xs) show i r)
     → stations_with drafts (change granted i xs) ≡ grant show i (stations_with drafts xs)
 unfolding grant
-granted_by_rules {V} drafts xs show i r m h w l e =
-    granted_view drafts xs i r m h w l
+granted_by_rules {V} drafts xs show i r m h w e =
+    granted_view drafts xs i r m h w
     ∙ ap (λ d. put t i (running_station (t i).stamp (record { record_number = r; draft = d; stage = Owned } ∷ (t i).hand))) e
     ∙ ap (put t i) (go (get_or xs i no_station).phase w)
   where

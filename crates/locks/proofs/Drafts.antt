@@ -13,7 +13,7 @@ use Rattle.rules.proofs.Searches.{any_below_same}
 use Rattle.locks.specs.declared.station.Hold.{Hold}
 use Rattle.locks.specs.declared.station.Station.{Station}
 use Rattle.locks.specs.declared.table.LockTable.{LockTable}
-use Rattle.locks.specs.View.{no_hold, no_station, hold_with, hand_with, stations_with}
+use Rattle.locks.specs.View.{no_hold, hold_with, hand_with, stations_with, hand_at}
 use Rattle.locks.specs.Admission.{table_with}
 use Rattle.locks.proofs.Turns.{and_both, or_both}
 use Rattle.locks.proofs.Hands.{mode_kept, exclusive_kept, hand_length, holds_at_place, conflicts_at_place, owned_conflicts_at_place, owns_at_place, shared_at_place}
@@ -56,7 +56,7 @@ module _ {V W : Type 0} (these : ℕ → ℕ → V) (those : ℕ → ℕ → W) 
 
   -- the same stations have a hold on record r that conflicts
   station_conflicts_same : (m : Mode) (r j : ℕ) → conflicts m (hold_on r (stations_with these xs j).hand) ≡ conflicts m (hold_on r (stations_with those xs j).hand)
-  station_conflicts_same m r j = conflicts_same (these j) (those j) r (get_or xs j no_station).hand (get_or xs j no_station).held m
+  station_conflicts_same m r j = conflicts_same (these j) (those j) r (hand_at xs j) (length (hand_at xs j)) m
 
   -- the same stations bind a hold
   pub binds_same : (i : ℕ) (v : V) (w : W) (h : Hold) (j : ℕ) → binds (stations_with these xs) i (hold_with v h) j ≡ binds (stations_with those xs) i (hold_with w h) j
@@ -76,7 +76,7 @@ module _ {V W : Type 0} (these : ℕ → ℕ → V) (those : ℕ → ℕ → W) 
   -- the bonds are the same
   pub bonds_same : (i : ℕ) → bonds (stations_with these xs) i ≡ bonds (stations_with those xs) i
   unfolding bonds
-  bonds_same i = bonds_in_same i (these i) (those i) (get_or xs i no_station).hand (get_or xs i no_station).held
+  bonds_same i = bonds_in_same i (these i) (those i) (hand_at xs i) (length (hand_at xs i))
 
   -- the same stations are behind a bond that comes from a hand
   behind_bond_in_same : (i j : ℕ) (a : ℕ → V) (b : ℕ → W) (hand : List Hold) (n : ℕ)
@@ -86,12 +86,12 @@ module _ {V W : Type 0} (these : ℕ → ℕ → V) (those : ℕ → ℕ → W) 
 
   -- the same stations are behind a bond
   pub behind_bond_same : (i j : ℕ) → behind_bond (stations_with these xs) i j ≡ behind_bond (stations_with those xs) i j
-  behind_bond_same i j = behind_bond_in_same i j (these i) (those i) (get_or xs i no_station).hand (get_or xs i no_station).held
+  behind_bond_same i j = behind_bond_in_same i j (these i) (those i) (hand_at xs i) (length (hand_at xs i))
 
   -- the same stations have an exclusive record in common
   pub station_in_common_same : (j i : ℕ) → exclusive_in_common (stations_with these xs j).hand (stations_with these xs i).hand ≡ exclusive_in_common (stations_with those xs j).hand (stations_with those xs i).hand
   station_in_common_same j i =
-      exclusive_in_common_same (these j) (these i) (those j) (those i) (get_or xs j no_station).hand (get_or xs i no_station).hand (get_or xs j no_station).held (get_or xs i no_station).held
+      exclusive_in_common_same (these j) (these i) (those j) (those i) (hand_at xs j) (hand_at xs i) (length (hand_at xs j)) (length (hand_at xs i))
 
   -- the same stations join
   pub joins_same : (members : ℕ → Bool) (i : ℕ) → joins (stations_with these xs) members i ≡ joins (stations_with those xs) members i
@@ -110,7 +110,7 @@ module _ {V W : Type 0} (these : ℕ → ℕ → V) (those : ℕ → ℕ → W) 
   pub blocks_same : (i r : ℕ) (m : Mode) (j : ℕ) → blocks (stations_with these xs) i r m j ≡ blocks (stations_with those xs) i r m j
   blocks_same i r m j =
       ap (λ b. b || (waits_for (stations_with these xs j).phase r && older (stations_with these xs) j i))
-      (owned_conflicts_same (these j) (those j) r (get_or xs j no_station).hand (get_or xs j no_station).held m)
+      (owned_conflicts_same (these j) (those j) r (hand_at xs j) (length (hand_at xs j)) m)
 
   -- the same stations are ready
   pub ready_same : (i : ℕ) (p : Phase) → ready (stations_with these xs) i p ≡ ready (stations_with those xs) i p
@@ -179,14 +179,14 @@ module _ {V W : Type 0} (C D : Type 0) (these : ℕ → ℕ → V) (those : ℕ 
       ∙ ap (λ n. recorded_and i r ((is_some (hold_on r (that.stations i).hand), refusal.Held) ∷ (leb 16 n, refusal.Hand) ∷ [])) (hand_length (these i) hand held ∙ sym (hand_length (those i) hand held))
     where
       hand : List Hold
-      hand = (get_or t.stations i no_station).hand
+      hand = hand_at t.stations i
 
       held : ℕ
-      held = (get_or t.stations i no_station).held
+      held = length (hand_at t.stations i)
 
   -- a look is refused alike
   pub look_same : (i r : ℕ) → refusals {C = C} named (Look i r) this ≡ refusals {C = D} named (Look i r) that
-  look_same i r = ap (λ b. recorded_and i r ((not b, refusal.Unowned) ∷ [])) (owns_same (these i) (those i) r (get_or t.stations i no_station).hand (get_or t.stations i no_station).held)
+  look_same i r = ap (λ b. recorded_and i r ((not b, refusal.Unowned) ∷ [])) (owns_same (these i) (those i) r (hand_at t.stations i) (length (hand_at t.stations i)))
 
   -- a retire is refused as a look is
   pub retire_same : (i r : ℕ) → refusals {C = C} named (Retire i r) this ≡ refusals {C = D} named (Look i r) that
@@ -195,8 +195,8 @@ module _ {V W : Type 0} (C D : Type 0) (these : ℕ → ℕ → V) (those : ℕ 
   -- a change is refused alike
   pub change_same : (i r : ℕ) (c : C) (d : D) → refusals named (Change i r c) this ≡ refusals named (Change i r d) that
   change_same i r c d =
-      ap (λ b. recorded_and i r ((not b, refusal.Unowned) ∷ (only_shared (hold_on r (this.stations i).hand), refusal.Shared) ∷ [])) (owns_same (these i) (those i) r (get_or t.stations i no_station).hand (get_or t.stations i no_station).held)
-      ∙ ap (λ b. recorded_and i r ((not (owns (hold_on r (that.stations i).hand)), refusal.Unowned) ∷ (b, refusal.Shared) ∷ [])) (shared_same (these i) (those i) r (get_or t.stations i no_station).hand (get_or t.stations i no_station).held)
+      ap (λ b. recorded_and i r ((not b, refusal.Unowned) ∷ (only_shared (hold_on r (this.stations i).hand), refusal.Shared) ∷ [])) (owns_same (these i) (those i) r (hand_at t.stations i) (length (hand_at t.stations i)))
+      ∙ ap (λ b. recorded_and i r ((not (owns (hold_on r (that.stations i).hand)), refusal.Unowned) ∷ (b, refusal.Shared) ∷ [])) (shared_same (these i) (those i) r (hand_at t.stations i) (length (hand_at t.stations i)))
 
   -- a commit is refused alike
   pub commit_same : (i : ℕ) → refusals {C = C} named (Commit i) this ≡ refusals {C = D} named (Commit i) that

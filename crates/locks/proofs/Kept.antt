@@ -1,16 +1,17 @@
 -- What every table keeps is kept by a change of one station.
-use Rattle.std.proofs.Common.{◌≡◌, ℕ, zero, suc, ◌+◌, ◌<◌, ◌≤◌, Bool, true, false, cond, not, ltb, List, length, get_or, set, replicate, Some, sym, refl, ap, ◌∙◌, subst, ⊎_elim, zero-le, add-one, arith, length-set, get_or-set_other, get_or-set_same}
+use Rattle.std.proofs.Common.{◌≡◌, ℕ, zero, suc, ◌+◌, ◌<◌, ◌≤◌, Bool, true, false, cond, not, ltb, List, [], ◌∷◌, length, get_or, set, replicate, Some, sym, refl, ap, ◌∙◌, subst, ⊎_elim, zero-le, add-one, arith, length-set, length-append, get_or-set_other, get_or-set_same}
 use Rattle.std.proofs.lemmas.Bool.{cases_eq, cases_lt, false≢true, cond_both, cond-true, cond-false, ltb-true}
-use Rattle.std.proofs.lemmas.List.{set_past, get_or_past, get_or-replicate}
+use Rattle.std.proofs.lemmas.List.{get_or_past, get_or_default, get_or-replicate, same_lists}
 use Rattle.rules.specs.Searches.{count_below}
 use Rattle.rules.specs.declared.Mode.{Mode}
 use Rattle.rules.specs.Tables.{is_idle}
 use Rattle.rules.proofs.Searches.{count_one_fewer}
+use Rattle.rules.specs.declared.Stage.TheVariants.{Owned}
 use Rattle.locks.specs.declared.station.Phase.{Phase}
 use Rattle.locks.specs.declared.station.Phase.TheVariants.{Idle, Running, Waiting, Wounded}
 use Rattle.locks.specs.declared.station.Station.{Station}
-use Rattle.locks.specs.View.{no_station, phase_of, claimed, attempts, active, awaited_in, awaited_at}
-use Rattle.locks.specs.Changes.{idle_entry, change, freed, started, wounded, wounded_phase, awaiting, waiting_in, granted, granted_in, again, again_in, retired_at, wounded_below}
+use Rattle.locks.specs.View.{no_hold, no_station, phase_of, hand_at, claimed, HasRoom, attempts, active, awaited_in, awaited_at}
+use Rattle.locks.specs.Changes.{in_phase, Keeps, change, freed, wounded, wounded_phase, awaiting, waiting_in, granted, granted_in, again, again_in, retired_hold, retired_at, wounded_below}
 
 -- a station read after one was put at s: that one, or what was there
 pub set_cases : (P : Station → Type 0) (xs : List Station) (s : ℕ) (y : Station) (i : ℕ) → i < length xs → (i ≡ s → P y)
@@ -51,104 +52,89 @@ attempts_fewer xs s y full keeps =
 abbrev pub Facts : List Station → ℕ → ℕ → Type 0
 Facts xs next commits = record {
   full : length xs ≡ 16;
-  hands : (i : ℕ) → i < 16 → length (get_or xs i no_station).hand ≡ 16;
-  room : (i : ℕ) → i < 16 → (get_or xs i no_station).held + claimed (get_or xs i no_station).phase ≤ 16;
+  room : (i : ℕ) → i < 16 → HasRoom (get_or xs i no_station);
   stamped : commits + attempts xs ≤ next;
   width : next < 4294967296;
 }
 
--- a place past the hand has nothing to retire
-pub retired_past : (k : ℕ) (s : Station) → length s.hand ≤ k → s ≡ retired_at k s
-retired_past k s h = ap (λ hand. record { phase = s.phase; hand = hand; held = s.held }) (sym (set_past s.hand k _ h))
-
--- a change that keeps the hand's length and the room of a station, and makes no attempt
-abbrev pub Keeps : (Station → Station) → Type 0
-Keeps f = (x : Station) → length x.hand ≡ 16 → x.held + claimed x.phase ≤ 16
-    → (length (f x).hand ≡ 16) × ((f x).held + claimed (f x).phase ≤ 16) × (active (f x) ≡ true → active x ≡ true)
-
 -- what a table keeps, after a change of one station
-pub kept : (xs : List Station) (s next commits : ℕ) (y : Station) → length xs ≡ 16
-    → ((i : ℕ) → i < 16 → length (get_or xs i no_station).hand ≡ 16)
-    → ((i : ℕ) → i < 16 → (get_or xs i no_station).held + claimed (get_or xs i no_station).phase ≤ 16)
-    → (s < 16 → length y.hand ≡ 16) → (s < 16 → y.held + claimed y.phase ≤ 16)
-    → commits + attempts (set xs s y) ≤ next → next < 4294967296 → Facts (set xs s y) next commits
-kept xs s next commits y full hands room hand place stamped width = record {
+pub kept : (xs : List Station) (s next commits : ℕ) (y : Station) → length xs ≡ 16 → ((i : ℕ) → i < 16 → HasRoom (get_or xs i no_station))
+    → (s < 16 → HasRoom y) → commits + attempts (set xs s y) ≤ next → next < 4294967296 → Facts (set xs s y) next commits
+kept xs s next commits y full room place stamped width = record {
   full = length-set xs s y ∙ full;
-  hands = set_keeps (λ x. length x.hand ≡ 16) xs s y full hands hand;
-  room = set_keeps (λ x. x.held + claimed x.phase ≤ 16) xs s y full room place;
+  room = set_keeps HasRoom xs s y full room place;
   stamped = stamped;
   width = width;
 }
 
+-- a station that was read with another default
+pub same_read : (xs : List Station) (s : ℕ) (d : Station) → s < 16 → length xs ≡ 16 → get_or xs s d ≡ get_or xs s no_station
+same_read xs s d h full = get_or_default xs s d no_station (omega arith)
+
+-- what is made of such a station
+pub read_as : {B : Type 0} (f : Station → B) (xs : List Station) (s : ℕ) (d : Station) (y : B) → s < 16 → y ≡ f (get_or xs s d) → length xs ≡ 16
+    → y ≡ f (get_or xs s no_station)
+read_as f xs s d y h e full = e ∙ ap f (same_read xs s d h full)
+
 -- what a table keeps, after a change that keeps it of its station
-pub kept_by : (f : Station → Station) → Keeps f → (xs : List Station) (s next commits : ℕ) (y : Station) → s < 16 → y ≡ f (get_or xs s no_station)
-    → length xs ≡ 16 → ((i : ℕ) → i < 16 → length (get_or xs i no_station).hand ≡ 16)
-    → ((i : ℕ) → i < 16 → (get_or xs i no_station).held + claimed (get_or xs i no_station).phase ≤ 16)
+pub kept_by : (f : Station → Station) → Keeps f → (xs : List Station) (s next commits : ℕ) (d y : Station) → s < 16 → y ≡ f (get_or xs s d)
+    → length xs ≡ 16 → ((i : ℕ) → i < 16 → HasRoom (get_or xs i no_station))
     → commits + attempts xs ≤ next → next < 4294967296 → Facts (set xs s y) next commits
-kept_by f keeps xs s next commits y h e full hands room stamped width =
-    let k = keeps (get_or xs s no_station) (hands s h) (room s h) in
-    kept xs s next commits y full hands room
-    (λ _. ap (λ (x : Station). length x.hand) e ∙ k.0)
-    (λ _. subst (λ (x : Station). x.held + claimed x.phase ≤ 16) (sym e) k.1)
-    (let less = attempts_fewer xs s y full (λ a. k.2 (ap active (sym e) ∙ a)) in omega (arith, less)) width
+kept_by f keeps xs s next commits d y h e full room stamped width =
+    let k = keeps (get_or xs s no_station) (room s h) in
+    let made = read_as f xs s d y h e full in
+    kept xs s next commits y full room (λ _. subst HasRoom (sym made) k.0)
+    (let less = attempts_fewer xs s y full (λ a. k.1 (ap active (sym made) ∙ a)) in omega (arith, less)) width
 
 -- freeing a station keeps them
 pub freed_keeps : Keeps freed
-freed_keeps x l r = (l, omega arith, λ a. absurd (false≢true a))
+freed_keeps x r = (omega arith, λ a. absurd (false≢true a))
 
 -- wounding a station keeps them
 pub wounded_keeps : Keeps wounded
-wounded_keeps x l r = (l, go x.phase, act x.phase)
+wounded_keeps x r = go x.phase
   where
-    go : (p : Phase) → 0 + claimed (wounded_phase p) ≤ 16
-    go Idle = omega arith
-    go (Running s) = omega arith
-    go (Waiting s q m) = omega arith
-    go (Wounded s) = omega arith
-
-    act : (p : Phase) → not (is_idle (phase_of (wounded_phase p))) ≡ true → not (is_idle (phase_of p)) ≡ true
-    act Idle a = a
-    act (Running s) a = a
-    act (Waiting s q m) a = a
-    act (Wounded s) a = a
+    go : (p : Phase) → (0 + claimed (wounded_phase p) ≤ 16) × (not (is_idle (phase_of (wounded_phase p))) ≡ true → not (is_idle (phase_of p)) ≡ true)
+    go Idle = (omega arith, λ a. a)
+    go (Running s) = (omega arith, λ a. a)
+    go (Waiting s q m) = (omega arith, λ a. a)
+    go (Wounded s) = (omega arith, λ a. a)
 
 -- a wait keeps them
 pub awaiting_keeps : (r : ℕ) (m : Mode) → Keeps (awaiting r m)
 awaiting_keeps r m x = go x.phase refl
   where
-    go : (p : Phase) → x.phase ≡ p → length x.hand ≡ 16 → x.held + claimed x.phase ≤ 16
-        → (length (waiting_in p r m x).hand ≡ 16) × ((waiting_in p r m x).held + claimed (waiting_in p r m x).phase ≤ 16) × (active (waiting_in p r m x) ≡ true → active x ≡ true)
-    go Idle e l h = (l, h, λ a. a)
-    go (Waiting s q n) e l h = (l, h, λ a. a)
-    go (Wounded s) e l h = (l, h, λ a. a)
-    go (Running s) e l h = cond_both (ltb x.held 16) _ x (λ (y : Station). (length y.hand ≡ 16) × (y.held + claimed y.phase ≤ 16) × (active y ≡ true → active x ≡ true))
-        (λ t. let lt = ltb-true x.held 16 t in (l, omega (arith, lt), λ a. ap (λ p. not (is_idle (phase_of p))) e)) (λ _. (l, h, λ a. a))
+    go : (p : Phase) → x.phase ≡ p → HasRoom x → HasRoom (waiting_in p r m x) × (active (waiting_in p r m x) ≡ true → active x ≡ true)
+    go Idle e h = (h, λ a. a)
+    go (Waiting s q n) e h = (h, λ a. a)
+    go (Wounded s) e h = (h, λ a. a)
+    go (Running s) e h = cond_both (ltb (length x.hand.items) 16) _ x (λ (y : Station). HasRoom y × (active y ≡ true → active x ≡ true))
+        (λ t. let lt = ltb-true (length x.hand.items) 16 t in (omega (arith, lt), λ a. ap (λ p. not (is_idle (phase_of p))) e)) (λ _. (h, λ a. a))
 
 -- a grant keeps them
 pub granted_keeps : Keeps granted
 granted_keeps x = go x.phase refl
   where
-    go : (p : Phase) → x.phase ≡ p → length x.hand ≡ 16 → x.held + claimed x.phase ≤ 16
-        → (length (granted_in p x).hand ≡ 16) × ((granted_in p x).held + claimed (granted_in p x).phase ≤ 16) × (active (granted_in p x) ≡ true → active x ≡ true)
-    go Idle e l h = (l, h, λ a. a)
-    go (Running s) e l h = (l, h, λ a. a)
-    go (Wounded s) e l h = (l, h, λ a. a)
-    go (Waiting s q m) e l h = let c = ap claimed e in (length-set _ _ _ ∙ l, omega (arith, c), λ a. ap (λ p. not (is_idle (phase_of p))) e)
+    go : (p : Phase) → x.phase ≡ p → HasRoom x → HasRoom (granted_in p x) × (active (granted_in p x) ≡ true → active x ≡ true)
+    go Idle e h = (h, λ a. a)
+    go (Running s) e h = (h, λ a. a)
+    go (Wounded s) e h = (h, λ a. a)
+    go (Waiting s q m) e h = let c = ap claimed e in let more = length-append x.hand.items (record { at = q; mode = m; stage = Owned } ∷ []) in
+        (omega (arith, c, more), λ a. ap (λ p. not (is_idle (phase_of p))) e)
 
 -- a new start keeps them
 pub again_keeps : Keeps again
 again_keeps x = go x.phase refl
   where
-    go : (p : Phase) → x.phase ≡ p → length x.hand ≡ 16 → x.held + claimed x.phase ≤ 16
-        → (length (again_in p x).hand ≡ 16) × ((again_in p x).held + claimed (again_in p x).phase ≤ 16) × (active (again_in p x) ≡ true → active x ≡ true)
-    go Idle e l h = (l, h, λ a. a)
-    go (Running s) e l h = (l, h, λ a. a)
-    go (Waiting s q m) e l h = (l, h, λ a. a)
-    go (Wounded s) e l h = (l, omega arith, λ a. ap (λ p. not (is_idle (phase_of p))) e)
+    go : (p : Phase) → x.phase ≡ p → HasRoom x → HasRoom (again_in p x) × (active (again_in p x) ≡ true → active x ≡ true)
+    go Idle e h = (h, λ a. a)
+    go (Running s) e h = (h, λ a. a)
+    go (Waiting s q m) e h = (h, λ a. a)
+    go (Wounded s) e h = (omega arith, λ a. ap (λ p. not (is_idle (phase_of p))) e)
 
 -- retiring a hold keeps them
 pub retired_keeps : (k : ℕ) → Keeps (retired_at k)
-retired_keeps k x l h = (length-set _ _ _ ∙ l, h, λ a. a)
+retired_keeps k x h = (let same = length-set x.hand.items k (retired_hold (get_or x.hand.items k no_hold)) in omega (arith, same), λ a. a)
 
 -- a station past the sixteen has no attempt
 pub active_below : (xs : List Station) (s : ℕ) → length xs ≡ 16 → active (get_or xs s no_station) ≡ true → s < 16
@@ -182,19 +168,16 @@ attempts_freed xs s full a =
     omega (arith, one)
 
 -- a table of idle stations has no attempt
-pub attempts_none : attempts (replicate 16 idle_entry) ≡ 0
+pub attempts_none : attempts (replicate 16 no_station) ≡ 0
 unfolding attempts
 attempts_none = refl
 
 -- what a table keeps, after a begin
-pub begun_kept : (xs : List Station) (s next commits : ℕ) (y : Station) → s < 16 → y ≡ started next (get_or xs s no_station) → length xs ≡ 16
-    → ((i : ℕ) → i < 16 → length (get_or xs i no_station).hand ≡ 16)
-    → ((i : ℕ) → i < 16 → (get_or xs i no_station).held + claimed (get_or xs i no_station).phase ≤ 16)
+pub begun_kept : (xs : List Station) (s next commits : ℕ) (y : Station) → s < 16 → y ≡ in_phase (Running next) [] → length xs ≡ 16
+    → ((i : ℕ) → i < 16 → HasRoom (get_or xs i no_station))
     → commits + attempts xs ≤ next → next + 1 < 4294967296 → Facts (set xs s y) (next + 1) commits
-begun_kept xs s next commits y h e full hands room stamped width =
-    kept xs s (next + 1) commits y full hands room
-    (λ _. ap (λ (x : Station). length x.hand) e ∙ hands s h)
-    (λ _. subst (λ (x : Station). x.held + claimed x.phase ≤ 16) (sym e) (omega arith))
+begun_kept xs s next commits y h e full room stamped width =
+    kept xs s (next + 1) commits y full room (λ _. subst HasRoom (sym e) (omega arith))
     (let more = attempts_one_more xs s y full h in omega (arith, more)) width
 
 -- what a table keeps, after a commit is counted
@@ -203,12 +186,15 @@ pub counted_kept : (xs : List Station) (s next commits : ℕ) (ys : List Station
 counted_kept xs s next commits ys e a full stamped =
     let less = attempts_freed xs s full a in let same = ap attempts e in omega (arith, less, same)
 
+-- sixteen idle stations
+pub all_idle : (xs : List Station) → length xs ≡ 16 → ((k : ℕ) (d : Station) → k < 16 → get_or xs k d ≡ no_station) → xs ≡ replicate 16 no_station
+all_idle xs full each = same_lists xs (replicate 16 no_station) full (λ k d h. each k d (omega arith) ∙ sym (get_or-replicate 16 k no_station d (omega arith)))
+
 -- what a new table keeps
-pub new_kept : (next : ℕ) (xs : List Station) → xs ≡ replicate 16 idle_entry → next < 4294967296 → Facts xs next 0
+pub new_kept : (next : ℕ) (xs : List Station) → xs ≡ replicate 16 no_station → next < 4294967296 → Facts xs next 0
 new_kept next xs e width = record {
   full = ap length e;
-  hands = λ i h. ap (λ ys. length (get_or ys i no_station).hand) e ∙ ap (λ (x : Station). length x.hand) (get_or-replicate 16 i idle_entry no_station h);
-  room = λ i h. subst (λ (x : Station). x.held + claimed x.phase ≤ 16) (sym (ap (λ ys. get_or ys i no_station) e ∙ get_or-replicate 16 i idle_entry no_station h)) (omega arith);
+  room = λ i h. subst HasRoom (sym (ap (λ ys. get_or ys i no_station) e ∙ get_or-replicate 16 i no_station no_station h)) (omega arith);
   stamped = let none = ap attempts e ∙ attempts_none in omega (arith, none);
   width = width;
 }
@@ -229,10 +215,9 @@ unfolding wounded_below
 wounded_none members xs = refl
 
 -- a station that waits has a place for the hold
-pub room_at : (xs : List Station) (i r : ℕ) (m : Mode) → length xs ≡ 16 → ((i : ℕ) → i < 16 → length (get_or xs i no_station).hand ≡ 16)
-    → ((i : ℕ) → i < 16 → (get_or xs i no_station).held + claimed (get_or xs i no_station).phase ≤ 16) → Some (r, m) ≡ awaited_at xs i
-    → (i < 16) × ((get_or xs i no_station).held < length (get_or xs i no_station).hand)
-room_at xs i r m full hands room e = (below, go (get_or xs i no_station).phase e (hands i below) (room i below))
+pub room_at : (xs : List Station) (i r : ℕ) (m : Mode) → length xs ≡ 16 → ((i : ℕ) → i < 16 → HasRoom (get_or xs i no_station))
+    → Some (r, m) ≡ awaited_at xs i → (i < 16) × (length (hand_at xs i) < 16)
+room_at xs i r m full room e = (below, go (get_or xs i no_station).phase e (room i below))
   where
     waits : (p : Phase) → Some (r, m) ≡ awaited_in p → not (is_idle (phase_of p)) ≡ true
     waits Idle e = absurd (let z : ◌≡◌ {A = ℕ} 0 1 = cc in omega arith)
@@ -243,9 +228,8 @@ room_at xs i r m full hands room e = (below, go (get_or xs i no_station).phase e
     below : i < 16
     below = active_below xs i full (waits (get_or xs i no_station).phase e)
 
-    go : (p : Phase) → Some (r, m) ≡ awaited_in p → length (get_or xs i no_station).hand ≡ 16 → (get_or xs i no_station).held + claimed p ≤ 16
-        → (get_or xs i no_station).held < length (get_or xs i no_station).hand
-    go Idle e l h = absurd (let z : ◌≡◌ {A = ℕ} 0 1 = cc in omega arith)
-    go (Running s) e l h = absurd (let z : ◌≡◌ {A = ℕ} 0 1 = cc in omega arith)
-    go (Waiting s q n) e l h = omega arith
-    go (Wounded s) e l h = absurd (let z : ◌≡◌ {A = ℕ} 0 1 = cc in omega arith)
+    go : (p : Phase) → Some (r, m) ≡ awaited_in p → length (hand_at xs i) + claimed p ≤ 16 → length (hand_at xs i) < 16
+    go Idle e h = absurd (let z : ◌≡◌ {A = ℕ} 0 1 = cc in omega arith)
+    go (Running s) e h = absurd (let z : ◌≡◌ {A = ℕ} 0 1 = cc in omega arith)
+    go (Waiting s q n) e h = omega arith
+    go (Wounded s) e h = absurd (let z : ◌≡◌ {A = ℕ} 0 1 = cc in omega arith)

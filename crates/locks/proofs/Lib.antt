@@ -1,4 +1,7 @@
 pub mod Turns
+pub mod Places
+pub mod Sets
+pub mod Searches
 pub mod Hands
 pub mod Kept
 pub mod Bonds

@@ -12,7 +12,7 @@ use Rattle.rules.specs.Calls.{refusals, first_refusal, owns, held_test, hand_tes
 use Rattle.rules.proofs.Searches.{any_below_from}
 use Rattle.rules.proofs.Naming.{naming_is_free}
 use Rattle.locks.specs.declared.table.LockTable.{LockTable}
-use Rattle.locks.specs.View.{bare, no_station, held_by, place_on}
+use Rattle.locks.specs.View.{bare, no_station, hand_at, held_by, place_on}
 use Rattle.locks.specs.Admission.{table_of, refused, running_tests, not_running, record_tests, no_record, admitted}
 use Rattle.locks.proofs.Hands.{hand_length, owns_at, owns_at_place, shared_at, shared_at_place}
 
@@ -57,30 +57,30 @@ module _ (t : LockTable) (s i at records : ℕ) (admits : Ok i ≡ admitted s (n
 
   -- of a take, after the station, the record and the holds: whether the hand is full
   pub take_by_hand : (m : Mode) → false ≡ is_some (hold_on at (held_by (get_or t.stations i no_station)))
-      → refused 0 (Take s at m) t records ≡ cond (leb 16 (get_or t.stations i no_station).held) (Some refusal.Hand) None
+      → refused 0 (Take s at m) t records ≡ cond (leb 16 (length (hand_at t.stations i))) (Some refusal.Hand) None
   take_by_hand m free =
       after_tests (record_tests t s at records) (held_test (table_of t records) s at ∷ hand_test (table_of t records) s ∷ []) (admitted_ok i s (no_record t s at records) admits).0
       ∙ ap (λ j. cond (is_some (hold_on at (bare t.stations j).hand)) (Some refusal.Held) (cond (leb 16 (length (bare t.stations j).hand)) (Some refusal.Hand) None)) (sym named_station)
       ∙ cond-false (is_some (hold_on at (bare t.stations i).hand)) (Some refusal.Held) _ (sym free)
-      ∙ ap (λ n. cond (leb 16 n) (Some refusal.Hand) None) (hand_length (λ k. tt {0}) (get_or t.stations i no_station).hand (get_or t.stations i no_station).held)
+      ∙ ap (λ n. cond (leb 16 n) (Some refusal.Hand) None) (hand_length (λ k. tt {0}) (hand_at t.stations i) (length (hand_at t.stations i)))
 
   -- of a look, after the station and the record: whether the hold is owned
-  pub look_by_hold : (o : Option ℕ) → o ≡ place_on at (get_or t.stations i no_station).hand (get_or t.stations i no_station).held
-      → refused 0 (Look s at) t records ≡ cond (not (owns_at (get_or t.stations i no_station).hand o)) (Some refusal.Unowned) None
+  pub look_by_hold : (o : Option ℕ) → o ≡ place_on at (hand_at t.stations i) (length (hand_at t.stations i))
+      → refused 0 (Look s at) t records ≡ cond (not (owns_at (hand_at t.stations i) o)) (Some refusal.Unowned) None
   look_by_hold o e =
       after_tests (record_tests t s at records) (unowned_test (table_of t records) s at ∷ []) (admitted_ok i s (no_record t s at records) admits).0
       ∙ ap (λ j. cond (not (owns (hold_on at (bare t.stations j).hand))) (Some refusal.Unowned) None) (sym named_station)
-      ∙ ap (λ b. cond (not b) (Some refusal.Unowned) None) (owns_at_place (λ k. tt {0}) at (get_or t.stations i no_station).hand (get_or t.stations i no_station).held)
-      ∙ ap (λ q. cond (not (owns_at (get_or t.stations i no_station).hand q)) (Some refusal.Unowned) None) (sym e)
+      ∙ ap (λ b. cond (not b) (Some refusal.Unowned) None) (owns_at_place (λ k. tt {0}) at (hand_at t.stations i) (length (hand_at t.stations i)))
+      ∙ ap (λ q. cond (not (owns_at (hand_at t.stations i) q)) (Some refusal.Unowned) None) (sym e)
 
 -- of a change, after a look would be admitted: whether the hold is shared
 pub change_by_mode : (t : LockTable) (s at records : ℕ) (o : Option ℕ) → None ≡ refused 0 (Look s at) t records
-    → o ≡ place_on at (get_or t.stations s no_station).hand (get_or t.stations s no_station).held
-    → refused 0 (Change s at tt) t records ≡ cond (shared_at (get_or t.stations s no_station).hand o) (Some refusal.Shared) None
+    → o ≡ place_on at (hand_at t.stations s) (length (hand_at t.stations s))
+    → refused 0 (Change s at tt) t records ≡ cond (shared_at (hand_at t.stations s) o) (Some refusal.Shared) None
 change_by_mode t s at records o e p =
     after_tests (refusals {V = Unit {0}} {C = Unit {0}} 0 (Look s at) (table_of t records)) (shared_test (table_of t records) s at ∷ []) (sym e)
-    ∙ ap (λ b. cond b (Some refusal.Shared) None) (shared_at_place (λ k. tt {0}) at (get_or t.stations s no_station).hand (get_or t.stations s no_station).held)
-    ∙ ap (λ q. cond (shared_at (get_or t.stations s no_station).hand q) (Some refusal.Shared) None) (sym p)
+    ∙ ap (λ b. cond b (Some refusal.Shared) None) (shared_at_place (λ k. tt {0}) at (hand_at t.stations s) (length (hand_at t.stations s)))
+    ∙ ap (λ q. cond (shared_at (hand_at t.stations s) q) (Some refusal.Shared) None) (sym p)
 
 -- who is behind a bond shows that there is one
 pub bonds_behind : {V : Type 0} (t : Stations V) (i j : ℕ) → j < 16 → behind_bond t i j ≡ true → 0 < bonds t i

@@ -1,31 +1,25 @@
--- The members as an array, and the rounds of widening.
-use Rattle.std.proofs.Common.{◌≡◌, ℕ, suc, ◌+◌, ◌-◌, ◌<◌, ◌≤◌, Bool, true, false, ◌||◌, ltb, List, length, get_or, set, IfSome, Some, None, Option, sym, refl, ap, ◌∙◌, ⊎_elim, arith, get_or-set_other, get_or-set_same}
-use mathlib.Core.Path.{fun_ext}
-use Rattle.std.proofs.lemmas.Bool.{cases_eq, eq-eqb, ne_eqb, le-ltb}
+-- The rounds of widening.
+use Rattle.std.proofs.Common.{◌≡◌, ℕ, zero, suc, ◌-◌, ◌≤◌, Bool, false, not, ◌||◌, ltb, List, length, Some, None, Option, sym, refl, ap, ◌∙◌, arith}
+use Rattle.std.proofs.lemmas.Bool.{ne_eqb, le-ltb, and_parts}
 use Rattle.std.proofs.lemmas.List.{get_or_past}
-use Rattle.rules.specs.Searches.{first_below, until}
+use Rattle.rules.specs.Searches.{first_below, count_below, until}
 use Rattle.rules.specs.Tables.{Stations, older}
 use Rattle.rules.specs.Operations.{joins, with_member, widen}
-use Rattle.rules.proofs.Searches.{first_below_passes}
+use Rattle.rules.proofs.Searches.{eqb_refl, first_below_passes, count_at_most, count_one_fewer}
 use Rattle.locks.specs.declared.station.Station.{Station}
-use Rattle.locks.specs.View.{bare, member_of, no_station, stamp_of}
-use Rattle.locks.specs.Asked.{widen_within}
+use Rattle.locks.specs.View.{bare, no_station, stamp_of}
 
 -- nobody past the sixteen stations is younger
 pub not_younger_past : (xs : List Station) (i j : ℕ) → length xs ≤ j → older (bare xs) i j ≡ false
 not_younger_past xs i j h = ap (λ (x : Station). ltb (bare xs i).stamp (stamp_of x.phase)) (get_or_past xs j no_station h) ∙ le-ltb (bare xs i).stamp 0 (omega arith)
 
--- the first found is below the bound
-pub first_within : (n : ℕ) (p : ℕ → Bool) (o : Option ℕ) → o ≡ first_below n p → IfSome o (λ k. k < n)
-first_within n p None e = tt
-first_within n p (Some k) e = (first_below_passes n p k (sym e)).0
+-- how many stations are no members
+abbrev pub outside : (ℕ → Bool) → ℕ
+outside members = count_below 16 (λ j. not (members j))
 
--- a member written into the array joins the set
-pub member_written : (members : List Bool) (k : ℕ) → k < length members → member_of (set members k true) ≡ with_member k (member_of members)
-member_written members k h = fun_ext (λ j. ⊎_elim
-    (λ (e : j ≡ k). ap (λ i. get_or (set members k true) i false) e ∙ get_or-set_same members k true false h ∙ ap (λ b. b || member_of members j) (sym (eq-eqb j k e)))
-    (λ (ne : j ≡ k → ⊥). get_or-set_other members k j true false ne ∙ ap (λ b. b || member_of members j) (sym (ne_eqb j k ne)))
-    (cases_eq j k))
+-- the set widened by at most n stations
+pub widen_within : {V : Type 0} → Stations V → ℕ → (ℕ → Bool) → ℕ → Bool
+widen_within t n members = until n (λ ms. first_below 16 (joins t ms)) with_member members
 
 module _ {V : Type 0} (t : Stations V) where
   -- the first that joins is taken, with one round fewer left
@@ -50,6 +44,38 @@ module _ {V : Type 0} (t : Stations V) where
   unfolding widen_within widen
   widen_all ms = refl
 
--- the rounds that are left, before and after one
-pub one_fewer : (n : ℕ) → n < 16 → 16 - n ≡ suc (16 - (n + 1))
-one_fewer n h = omega arith
+  -- the members are on the way from the first ones to the rules' widening: with these rounds, which are enough, they come there
+  pub record Widens (first members : ℕ → Bool) : Type 0 where
+    pub rounds : ℕ
+    pub enough : outside members ≤ rounds
+    pub same : widen_within t rounds members ≡ widen t first
+
+  -- the first ones are
+  pub widens_from : (first : ℕ → Bool) → Widens first first
+  widens_from first = record { rounds = 16; enough = count_at_most 16 (λ j. not (first j)); same = widen_all first }
+
+  module _ (members : ℕ → Bool) (k : ℕ) (joined : Some k ≡ first_below 16 (joins t members)) where
+    -- one who joins was no member
+    pub fewer_outside : suc (outside (with_member k members)) ≡ outside members
+    fewer_outside =
+        let found = first_below_passes 16 (joins t members) k (sym joined) in
+        count_one_fewer 16 (λ j. not (members j)) (λ j. not (with_member k members j)) k found.0 (and_parts _ _ found.1).0
+        (ap (λ b. not (b || members k)) (eqb_refl k)) (λ j ne. ap (λ b. not (b || members j)) (ne_eqb j k ne))
+
+    -- with one who joins, the members are still on the way
+    pub widens_joined : (first : ℕ → Bool) → Widens first members → Widens first (with_member k members)
+    widens_joined first w =
+        let left : w.rounds ≡ suc (w.rounds - 1) = omega (arith, fewer_outside, w.enough) in
+        record {
+          rounds = w.rounds - 1;
+          enough = omega (arith, fewer_outside, w.enough);
+          same = sym (widen_joined w.rounds (w.rounds - 1) k members left joined) ∙ w.same;
+        }
+
+  -- where nobody joins, the members are the rules' widening
+  pub widens_closed : (first members : ℕ → Bool) → Widens first members → None ≡ first_below 16 (joins t members) → members ≡ widen t first
+  widens_closed first members w none = by w.rounds refl ∙ w.same
+    where
+      by : (n : ℕ) → w.rounds ≡ n → members ≡ widen_within t w.rounds members
+      by zero e = sym (widen_over w.rounds members e)
+      by (suc n) e = sym (widen_closed w.rounds n members e none)

@@ -1,14 +1,11 @@
 -- Which calls the rules admit on the table, with the drafts left out.
-use Rattle.std.specs.Prelude.{◌≡◌, ℕ, ◌<◌, Bool, List, [], ◌∷◌, Some, None, Ok, Err, Option, Result, slice_index_or}
-use Rattle.rules.specs.declared.Mode.{Mode}
-use Rattle.rules.specs.declared.Mode.TheVariants.{Shared, Exclusive}
+use Rattle.std.specs.Prelude.{◌≡◌, ℕ, ◌<◌, Bool, List, [], ◌∷◌, length, Some, None, Ok, Err, Option, Result}
 use Rattle.rules.specs.declared.Refusal.{Refusal}
-use Rattle.rules.specs.declared.Refusal.TheVariants as refusal
 use Rattle.rules.specs.declared.Call.{Call}
 use Rattle.rules.specs.Tables.{Table}
 use Rattle.rules.specs.Calls.{refusals, first_refusal, station_test, idle_test, waiting_test, wounded_test, record_test}
 use Rattle.locks.specs.declared.table.LockTable.{LockTable}
-use Rattle.locks.specs.View.{stations_with, no_station, place_on}
+use Rattle.locks.specs.View.{stations_with, hand_at, place_on}
 
 -- the table as the rules have it, with these drafts, these plotted values and so many records
 abbrev pub table_with : {V : Type 0} → (ℕ → ℕ → V) → (ℕ → V) → LockTable → ℕ → Table V
@@ -38,11 +35,6 @@ record_tests t s r records = station_test (table_of t 0) s ∷ idle_test (table_
 abbrev pub no_record : LockTable → ℕ → ℕ → ℕ → Option Refusal
 no_record t s r records = first_refusal (record_tests t s r records)
 
--- the refusal of a change of a hold in this mode
-abbrev pub shared_refused : Mode → Option Refusal
-shared_refused Shared = Some refusal.Shared
-shared_refused Exclusive = None
-
 -- the answer, unless there is a refusal
 abbrev pub admitted : {A : Type 0} → A → Option Refusal → Result A Refusal
 admitted x None = Ok x
@@ -57,5 +49,5 @@ refusal_in (Err why) = Some why
 pub record HoldOf (t : LockTable) (s r : ℕ) (p : ℕ × ℕ) : Type 0 where
   pub station : p.0 ≡ s
   pub station_below : p.0 < 16
-  pub place : Some p.1 ≡ place_on r (slice_index_or t.stations s no_station).hand (slice_index_or t.stations s no_station).held
-  pub place_below : p.1 < (slice_index_or t.stations s no_station).held
+  pub place : Some p.1 ≡ place_on r (hand_at t.stations s) (length (hand_at t.stations s))
+  pub place_below : p.1 < length (hand_at t.stations s)

@@ -1,5 +1,5 @@
 -- What each change makes of a station of the code, and of the list of stations.
-use Rattle.std.specs.Prelude.{ℕ, zero, suc, ◌+◌, Bool, cond, ◌&&◌, List, replicate, nat_le, nat_lt, slice_index_or, slice_set}
+use Rattle.std.specs.Prelude.{◌≡◌, ℕ, zero, suc, Bool, true, cond, ◌&&◌, List, [], ◌∷◌, ◌++◌, length, nat_le, nat_lt, slice_index_or, slice_set}
 use Rattle.rules.specs.declared.Mode.{Mode}
 use Rattle.rules.specs.declared.Stage.TheVariants.{Owned, Retired}
 use Rattle.rules.specs.Calls.{last_stamp}
@@ -7,27 +7,23 @@ use Rattle.locks.specs.declared.station.Hold.{Hold}
 use Rattle.locks.specs.declared.station.Phase.{Phase}
 use Rattle.locks.specs.declared.station.Phase.TheVariants.{Idle, Running, Waiting, Wounded}
 use Rattle.locks.specs.declared.station.Station.{Station}
-use Rattle.locks.specs.View.{no_hold, no_station}
-
--- an idle station of the code, in a new table
-abbrev pub idle_entry : Station
-idle_entry = record { phase = Idle; hand = replicate 16 no_hold; held = 0 }
+use Rattle.locks.specs.View.{no_hold, no_station, HasRoom, active}
 
 -- does begin at station s find a station and a stamp?
 abbrev pub begins : ℕ → ℕ → Bool
 begins s next = nat_lt s 16 && nat_le next last_stamp
 
--- a station in another phase, with so many holds
-abbrev pub in_phase : Phase → ℕ → Station → Station
-in_phase p n s = record { phase = p; hand = s.hand; held = n }
+-- a station in this phase, with these holds
+abbrev pub in_phase : Phase → List Hold → Station
+in_phase p holds = record { phase = p; hand = record { items = holds } }
 
 -- no attempt
 abbrev pub freed : Station → Station
-freed = in_phase Idle 0
+freed s = in_phase Idle []
 
 -- an attempt that runs with an empty hand
 abbrev pub started : ℕ → Station → Station
-started stamp = in_phase (Running stamp) 0
+started stamp s = in_phase (Running stamp) []
 
 -- the phase of a wounded attempt: an idle station has none to wound
 abbrev pub wounded_phase : Phase → Phase
@@ -38,12 +34,12 @@ wounded_phase (Wounded s) = Wounded s
 
 -- all holds and the wait of the attempt go
 abbrev pub wounded : Station → Station
-wounded s = in_phase (wounded_phase s.phase) 0 s
+wounded s = in_phase (wounded_phase s.phase) []
 
 -- a running attempt, in this phase, waits for record r in mode m, where its hand has room
 abbrev pub waiting_in : Phase → ℕ → Mode → Station → Station
 waiting_in Idle r m s = s
-waiting_in (Running stamp) r m s = cond (nat_lt s.held 16) (in_phase (Waiting stamp r m) s.held s) s
+waiting_in (Running stamp) r m s = cond (nat_lt (length s.hand.items) 16) (in_phase (Waiting stamp r m) s.hand.items) s
 waiting_in (Waiting stamp q n) r m s = s
 waiting_in (Wounded stamp) r m s = s
 
@@ -55,8 +51,7 @@ awaiting r m s = waiting_in s.phase r m s
 abbrev pub granted_in : Phase → Station → Station
 granted_in Idle s = s
 granted_in (Running stamp) s = s
-granted_in (Waiting stamp r m) s = record
-    { phase = Running stamp; hand = slice_set s.hand s.held (record { at = r; mode = m; stage = Owned }); held = s.held + 1 }
+granted_in (Waiting stamp r m) s = in_phase (Running stamp) (s.hand.items ++ record { at = r; mode = m; stage = Owned } ∷ [])
 granted_in (Wounded stamp) s = s
 
 -- what an attempt waits for becomes an owned hold at the next place
@@ -80,7 +75,19 @@ retired_hold h = record { at = h.at; mode = h.mode; stage = Retired }
 
 -- a station with the hold at place k retired
 abbrev pub retired_at : ℕ → Station → Station
-retired_at k s = record { phase = s.phase; hand = slice_set s.hand k (retired_hold (slice_index_or s.hand k no_hold)); held = s.held }
+retired_at k s = in_phase s.phase (slice_set s.hand.items k (retired_hold (slice_index_or s.hand.items k no_hold)))
+
+-- what is made of a station
+abbrev pub Change : Type 0
+Change = Station → Station
+
+-- a change that keeps the room of a hand, and makes no attempt
+abbrev pub Keeps : Change → Type 0
+Keeps f = (s : Station) → HasRoom s → HasRoom (f s) × (active (f s) ≡ true → active s ≡ true)
+
+-- whatever these calls leave of a station is that change of it
+abbrev pub Does : (Station → Station → Type 0) → Change → Type 0
+Does leaves f = (old new : Station) → leaves old new → new ≡ f old
 
 -- the stations with station i changed
 abbrev pub change : (Station → Station) → ℕ → List Station → List Station

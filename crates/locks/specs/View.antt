@@ -1,6 +1,7 @@
 -- How the tables of the code read as the stations of the rules. The drafts come from elsewhere: place k of station i has
 -- the draft `drafts i k`.
-use Rattle.std.specs.Prelude.{◌≡◌, ℕ, zero, suc, ◌≤◌, Bool, false, cond, not, List, [], ◌∷◌, length, Some, None, Option, ◌==◌, slice_index_or}
+use Rattle.std.specs.Prelude.{ℕ, zero, suc, ◌+◌, ◌≤◌, Bool, false, cond, not, List, [], ◌∷◌, length, Some, None, Option, ◌==◌, slice_index_or}
+use Rattle.std.specs.Option.{option_map}
 use Rattle.rules.specs.declared.Mode.{Mode}
 use Rattle.rules.specs.declared.Mode.TheVariants.{Shared}
 use Rattle.rules.specs.declared.Stage.TheVariants.{Owned}
@@ -16,9 +17,9 @@ use Rattle.locks.specs.declared.station.Station.{Station}
 abbrev pub no_hold : Hold
 no_hold = record { at = 0; mode = Shared; stage = Owned }
 
--- what is read past the end of the stations
+-- an idle station with an empty hand, which is also what is read past the end of the stations
 abbrev pub no_station : Station
-no_station = record { phase = Idle; hand = []; held = 0 }
+no_station = record { phase = Idle; hand = record { items = [] } }
 
 -- what a station does, as the rules have it
 abbrev pub phase_of : Phase → rules.Phase
@@ -46,7 +47,7 @@ module _ {V : Type 0} where
 
   -- a station with the drafts of its places
   abbrev pub station_with : (ℕ → V) → Station → rules.Station V
-  station_with drafts s = record { phase = phase_of s.phase; stamp = stamp_of s.phase; hand = hand_with drafts s.hand s.held }
+  station_with drafts s = record { phase = phase_of s.phase; stamp = stamp_of s.phase; hand = hand_with drafts s.hand.items (length s.hand.items) }
 
   -- the stations with the drafts of their places
   abbrev pub stations_with : (ℕ → ℕ → V) → List Station → rules.Stations V
@@ -54,7 +55,7 @@ module _ {V : Type 0} where
 
 -- the holds of a station with the drafts left out: which modes conflict does not depend on them
 abbrev pub held_by : Station → List (rules.Hold (Unit {0}))
-held_by s = hand_with (λ k. tt {0}) s.hand s.held
+held_by s = hand_with (λ k. tt {0}) s.hand.items (length s.hand.items)
 
 -- the stations with the drafts left out
 abbrev pub bare : List Station → rules.Stations (Unit {0})
@@ -64,14 +65,14 @@ bare = stations_with (λ i k. tt {0})
 abbrev pub placed : List Station → rules.Stations (Option (ℕ × ℕ))
 placed = stations_with {V = Option (ℕ × ℕ)} (λ i k. Some (i, k))
 
--- a hand has sixteen places, of which the first `held` are in use
-abbrev pub Sane : Station → Type 0
-Sane s = (length s.hand ≡ 16) × (s.held ≤ 16)
-
 -- the place of the hold on record r among the first n, the newest first
 abbrev pub place_on : ℕ → List Hold → ℕ → Option ℕ
 place_on r hand zero = None
 place_on r hand (suc n) = cond ((slice_index_or hand n no_hold).at == r) (Some n) (place_on r hand n)
+
+-- the hold of a station on record r
+abbrev pub hold_in : ℕ → Station → Option Hold
+hold_in r s = option_map (λ k. slice_index_or s.hand.items k no_hold) (place_on r s.hand.items (length s.hand.items))
 
 -- the place that a wait keeps free for its hold
 abbrev pub claimed : Phase → ℕ
@@ -80,6 +81,10 @@ claimed (Running s) = 0
 claimed (Waiting s r m) = 1
 claimed (Wounded s) = 0
 
+-- a hand has room for what is in it and for what its station waits for
+abbrev pub HasRoom : Station → Type 0
+HasRoom s = length s.hand.items + claimed s.phase ≤ 16
+
 -- is there an attempt at a station?
 abbrev pub active : Station → Bool
 active s = not (rules.is_idle (phase_of s.phase))
@@ -87,6 +92,10 @@ active s = not (rules.is_idle (phase_of s.phase))
 -- the number of stations with an attempt
 unfoldable pub attempts : List Station → ℕ
 attempts stations = count_below 16 (λ i. active (slice_index_or stations i no_station))
+
+-- the holds of station i, in the order of their grants
+abbrev pub hand_at : List Station → ℕ → List Hold
+hand_at stations i = (slice_index_or stations i no_station).hand.items
 
 -- the stamp of station i, 0 where there is none
 abbrev pub stamp_at : List Station → ℕ → ℕ

@@ -3,45 +3,73 @@ ghost use Rattle.std.specs.Prelude.{◌≡◌, ℕ, ◌<◌, true, IfOk};
 ghost use Rattle.rules.specs.declared.Mode.{Mode as AnyMode};
 ghost use Rattle.rules.specs.declared.Call.TheVariants.{Begin, Take, Look, Change, Commit, GiveUp, Again, Standing as StandingCall};
 ghost use Rattle.rules.specs.Operations.{bonds, behind_bond};
-ghost use Rattle.rules.specs.Calls.{standing_of};
-ghost use Rattle.locks.specs.View.{bare};
-ghost use Rattle.locks.specs.Admission.{refused, not_running, no_record, shared_refused, admitted, refusal_in, HoldOf};
+ghost use Rattle.rules.specs.Calls.{state_of, stamp_of as stamp_told, awaited, standing_of};
+ghost use Rattle.locks.specs.View.{bare, phase_of, stamp_of};
+ghost use Rattle.locks.specs.Admission.{refused, not_running, no_record, admitted, refusal_in, HoldOf};
 
 use crate::station::{Phase, Station};
 use crate::table::{LAST_STAMP, LockTable};
 use rules::{Mode, Refusal, Stage, Standing, State};
 
-// A hold in this mode, which must be exclusive.
-fn admit_exclusive(mode: Mode, hold: (usize, usize)) -> Result<(usize, usize), Refusal>
-    ensures { result ≡ admitted hold (shared_refused mode) }
-{
-    match mode {
-        Mode::Shared => Err(Refusal::Shared),
-        Mode::Exclusive => Ok(hold),
+// The state of a station in this phase.
+impl From<Phase> for State {
+    ghost from_gives = { λ phase state. state ≡ state_of (phase_of phase) };
+
+    fn from(phase: Phase) -> State {
+        match phase {
+            Phase::Idle => State::Idle,
+            Phase::Running(_) => State::Running,
+            Phase::Waiting(..) => State::Waiting,
+            Phase::Wounded(_) => State::Wounded,
+        }
+    }
+}
+
+impl Phase {
+    // The stamp of the attempt, unless the station is idle.
+    fn attempt(self) -> Option<u32>
+        ensures { result ≡ stamp_told (phase_of self) (stamp_of self) }
+    {
+        match self {
+            Phase::Idle => None,
+            Phase::Running(stamp) | Phase::Waiting(stamp, ..) | Phase::Wounded(stamp) => {
+                Some(stamp)
+            }
+        }
+    }
+
+    // The record that the station waits for, if it waits.
+    fn awaits(self) -> Option<u32>
+        ensures { result ≡ awaited (phase_of self) }
+    {
+        match self {
+            Phase::Waiting(_, at, _) => Some(at),
+            Phase::Idle | Phase::Running(_) | Phase::Wounded(_) => None,
+        }
     }
 }
 
 impl LockTable {
+    // The station of this number, where there is one: all that standing needs.
+    fn station(&self, s: u32) -> Result<usize, Refusal>
+        ensures { result ≡ admitted s (refused 0 (StandingCall s) self.now 0) }
+    {
+        if s < 16 {
+            Ok(s as usize)
+        } else {
+            Err(Refusal::Station)
+        }
+    }
+
     // A begin: the station, which is idle, while there is a stamp.
     pub fn admit_begin(&self, s: u32) -> Result<usize, Refusal>
         ensures { result ≡ admitted s (refused 0 (Begin s) self.now 0) }
     {
-        let i = s as usize;
-        if i >= 16 {
-            return Err(Refusal::Station);
-        }
-        let phase = self.stations[i].phase;
-        match phase {
-            Phase::Idle => {
-                if self.next > LAST_STAMP {
-                    Err(Refusal::Spent)
-                } else {
-                    Ok(i)
-                }
-            }
-            Phase::Running(_) => Err(Refusal::Busy),
-            Phase::Waiting(_, _, _) => Err(Refusal::Busy),
-            Phase::Wounded(_) => Err(Refusal::Busy),
+        let i = self.station(s)?;
+        match self.stations[i].phase {
+            Phase::Idle if self.next > LAST_STAMP => Err(Refusal::Spent),
+            Phase::Idle => Ok(i),
+            Phase::Running(_) | Phase::Waiting(..) | Phase::Wounded(_) => Err(Refusal::Busy),
         }
     }
 
@@ -49,15 +77,11 @@ impl LockTable {
     fn admit_running(&self, s: u32) -> Result<usize, Refusal>
         ensures { result ≡ admitted s (not_running self.now s) }
     {
-        let i = s as usize;
-        if i >= 16 {
-            return Err(Refusal::Station);
-        }
-        let phase = self.stations[i].phase;
-        match phase {
+        let i = self.station(s)?;
+        match self.stations[i].phase {
             Phase::Idle => Err(Refusal::Idle),
             Phase::Running(_) => Ok(i),
-            Phase::Waiting(_, _, _) => Err(Refusal::Waiting),
+            Phase::Waiting(..) => Err(Refusal::Waiting),
             Phase::Wounded(_) => Err(Refusal::Wounded),
         }
     }
@@ -66,16 +90,10 @@ impl LockTable {
     pub fn admit_give_up(&self, s: u32) -> Result<usize, Refusal>
         ensures { result ≡ admitted s (refused 0 (GiveUp s) self.now 0) }
     {
-        let i = s as usize;
-        if i >= 16 {
-            return Err(Refusal::Station);
-        }
-        let phase = self.stations[i].phase;
-        match phase {
+        let i = self.station(s)?;
+        match self.stations[i].phase {
             Phase::Idle => Err(Refusal::Idle),
-            Phase::Running(_) => Ok(i),
-            Phase::Waiting(_, _, _) => Ok(i),
-            Phase::Wounded(_) => Ok(i),
+            Phase::Running(_) | Phase::Waiting(..) | Phase::Wounded(_) => Ok(i),
         }
     }
 
@@ -83,15 +101,9 @@ impl LockTable {
     pub fn admit_again(&self, s: u32) -> Result<usize, Refusal>
         ensures { result ≡ admitted s (refused 0 (Again s) self.now 0) }
     {
-        let i = s as usize;
-        if i >= 16 {
-            return Err(Refusal::Station);
-        }
-        let phase = self.stations[i].phase;
-        match phase {
-            Phase::Idle => Err(Refusal::Sound),
-            Phase::Running(_) => Err(Refusal::Sound),
-            Phase::Waiting(_, _, _) => Err(Refusal::Sound),
+        let i = self.station(s)?;
+        match self.stations[i].phase {
+            Phase::Idle | Phase::Running(_) | Phase::Waiting(..) => Err(Refusal::Sound),
             Phase::Wounded(_) => Ok(i),
         }
     }
@@ -116,7 +128,7 @@ impl LockTable {
         if self.stations[i].holds(at) {
             return Err(Refusal::Held);
         }
-        if self.stations[i].held >= 16 {
+        if self.stations[i].hand.is_full() {
             Err(Refusal::Hand)
         } else {
             Ok(i)
@@ -132,8 +144,7 @@ impl LockTable {
         let Some(k) = self.stations[i].place_on(at) else {
             return Err(Refusal::Unowned);
         };
-        let stage = self.stations[i].hand[k].stage;
-        match stage {
+        match self.stations[i].hand[k].stage {
             Stage::Owned => Ok((i, k)),
             Stage::Retired => Err(Refusal::Unowned),
         }
@@ -145,7 +156,10 @@ impl LockTable {
         ensures place { IfOk result (HoldOf self.now s at) }
     {
         let (i, k) = self.admit_hold(s, at, records)?;
-        admit_exclusive(self.stations[i].hand[k].mode, (i, k))
+        match self.stations[i].hand[k].mode {
+            Mode::Shared => Err(Refusal::Shared),
+            Mode::Exclusive => Ok((i, k)),
+        }
     }
 
     // A commit: the station, which runs and has no bonds. A refusal names a station behind a bond.
@@ -166,37 +180,13 @@ impl LockTable {
     pub fn standing(&self, s: u32) -> Result<Standing, Refusal>
         ensures { result ≡ admitted (standing_of (bare self.now.stations) s) (refused 0 (StandingCall s) self.now 0) }
     {
-        let i = s as usize;
-        if i >= 16 {
-            return Err(Refusal::Station);
-        }
-        let bonds = self.bonds(i);
+        let i = self.station(s)?;
         let phase = self.stations[i].phase;
-        match phase {
-            Phase::Idle => Ok(Standing {
-                state: State::Idle,
-                stamp: None,
-                bonds,
-                awaits: None,
-            }),
-            Phase::Running(stamp) => Ok(Standing {
-                state: State::Running,
-                stamp: Some(stamp),
-                bonds,
-                awaits: None,
-            }),
-            Phase::Waiting(stamp, at, _) => Ok(Standing {
-                state: State::Waiting,
-                stamp: Some(stamp),
-                bonds,
-                awaits: Some(at),
-            }),
-            Phase::Wounded(stamp) => Ok(Standing {
-                state: State::Wounded,
-                stamp: Some(stamp),
-                bonds,
-                awaits: None,
-            }),
-        }
+        Ok(Standing {
+            state: State::from(phase),
+            stamp: phase.attempt(),
+            bonds: self.bonds(i),
+            awaits: phase.awaits(),
+        })
     }
 }

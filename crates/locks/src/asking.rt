@@ -1,38 +1,34 @@
 // Questions to one station: what it does, and the holds in its hand.
-ghost use Rattle.std.specs.Prelude.{◌≡◌, ◌<◌, is_some, IfSome};
+ghost use Rattle.std.specs.Prelude.{◌≡◌, ◌<◌, length, is_some, IfSome};
+ghost use Rattle.std.specs.Option.{option_map};
 ghost use Rattle.rules.specs.declared.Mode.TheVariants.{Shared};
 ghost use Rattle.rules.specs.Tables.{is_waiting, is_wounded, is_owned, conflict, conflicts, owned_conflicts, hold_on, draft_in, waits_for};
 ghost use Rattle.rules.specs.Operations.{exclusive_in_common};
-ghost use Rattle.locks.specs.View.{phase_of, stamp_of, active, awaited_in, hand_with, Sane, place_on, held_by};
+ghost use Rattle.locks.specs.View.{phase_of, stamp_of, active, awaited_in, no_hold, hand_with, place_on, hold_in, held_by};
 
-use crate::station::{Phase, Station};
+use crate::station::{Hold, Phase, Station};
 use rules::{Mode, Stage};
 
-// Two modes conflict unless both are shared.
-pub(crate) fn conflict(a: Mode, b: Mode) -> bool
-    ensures { result ≡ conflict a b }
-{
-    match (a, b) {
-        (Mode::Shared, Mode::Shared) => false,
-        (Mode::Shared, Mode::Exclusive) => true,
-        (Mode::Exclusive, _) => true,
+impl Hold {
+    // Whether the hold is exclusive: it conflicts with a shared one.
+    fn is_exclusive(&self) -> bool
+        ensures { result ≡ conflict Shared self.now.mode }
+    {
+        self.mode == Mode::Exclusive
     }
-}
 
-// Whether a mode is exclusive: it conflicts with a shared one.
-fn is_exclusive(mode: Mode) -> bool
-    ensures { result ≡ conflict Shared mode }
-{
-    conflict(Mode::Shared, mode)
-}
+    // Whether the station still owns the record.
+    fn is_owned(&self) -> bool
+        ensures { result ≡ is_owned self.now.stage }
+    {
+        self.stage == Stage::Owned
+    }
 
-// Whether this is the stage of an owned hold.
-fn is_owned(stage: Stage) -> bool
-    ensures { result ≡ is_owned stage }
-{
-    match stage {
-        Stage::Owned => true,
-        Stage::Retired => false,
+    // Whether the hold conflicts with one in this mode: two modes conflict unless both are shared.
+    fn conflicts(&self, mode: Mode) -> bool
+        ensures { result ≡ conflict mode self.now.mode }
+    {
+        !matches!((mode, self.mode), (Mode::Shared, Mode::Shared))
     }
 }
 
@@ -41,12 +37,9 @@ impl Station {
     pub(crate) fn stamp(&self) -> u32
         ensures { result ≡ stamp_of self.now.phase }
     {
-        let phase = self.phase;
-        match phase {
+        match self.phase {
             Phase::Idle => 0,
-            Phase::Running(stamp) => stamp,
-            Phase::Waiting(stamp, _, _) => stamp,
-            Phase::Wounded(stamp) => stamp,
+            Phase::Running(stamp) | Phase::Waiting(stamp, _, _) | Phase::Wounded(stamp) => stamp,
         }
     }
 
@@ -54,13 +47,7 @@ impl Station {
     pub(crate) fn has_attempt(&self) -> bool
         ensures { result ≡ active self.now }
     {
-        let phase = self.phase;
-        match phase {
-            Phase::Idle => false,
-            Phase::Running(_) => true,
-            Phase::Waiting(_, _, _) => true,
-            Phase::Wounded(_) => true,
-        }
+        !matches!(self.phase, Phase::Idle)
     }
 
     // Whether the station waits.
@@ -81,12 +68,9 @@ impl Station {
     pub(crate) fn awaited(&self) -> Option<(u32, Mode)>
         ensures { result ≡ awaited_in self.now.phase }
     {
-        let phase = self.phase;
-        match phase {
-            Phase::Idle => None,
-            Phase::Running(_) => None,
+        match self.phase {
             Phase::Waiting(_, at, mode) => Some((at, mode)),
-            Phase::Wounded(_) => None,
+            _ => None,
         }
     }
 
@@ -94,87 +78,60 @@ impl Station {
     pub(crate) fn waits_for(&self, at: u32) -> bool
         ensures { result ≡ waits_for (phase_of self.now.phase) at }
     {
-        let phase = self.phase;
-        match phase {
-            Phase::Idle => false,
-            Phase::Running(_) => false,
-            Phase::Waiting(_, awaited, _) => awaited == at,
-            Phase::Wounded(_) => false,
-        }
+        matches!(self.phase, Phase::Waiting(_, awaited, _) if awaited == at)
     }
 
     // The place of the hold on a record.
     pub(crate) fn place_on(&self, at: u32) -> Option<usize>
-        requires { Sane self.now }
-        ensures place { result ≡ place_on at self.now.hand self.now.held }
-        ensures within { IfSome result (λ k. k < self.now.held) }
+        ensures place { result ≡ place_on at self.now.hand.items (length self.now.hand.items) }
+        ensures within { IfSome result (λ k. k < length self.now.hand.items) }
     {
-        for k in (0..self.held).rev() {
-            if self.hand[k].at == at {
-                return Some(k);
-            }
-        }
-        None
+        self.hand.iter().rposition(|hold| hold.at == at)
+    }
+
+    // The hold on a record.
+    fn hold_on(&self, at: u32) -> Option<Hold>
+        ensures { result ≡ hold_in at self.now }
+    {
+        self.place_on(at).map(|k| self.hand[k])
     }
 
     // Whether the station holds the record.
     pub(crate) fn holds(&self, at: u32) -> bool
-        requires { Sane self.now }
         ensures { result ≡ is_some (hold_on at (held_by self.now)) }
     {
-        self.place_on(at).is_some()
+        self.hold_on(at).is_some()
     }
 
     // The place of an exclusive hold on the record: its draft, if each draft is its own place.
     pub(crate) fn exclusive_on(&self, at: u32) -> Option<usize>
-        requires { Sane self.now }
-        ensures within { IfSome result (λ k. k < self.now.held) }
-        ensures place { result ≡ draft_in (hold_on at (hand_with (λ k. k) self.now.hand self.now.held)) }
+        ensures within { IfSome result (λ k. k < length self.now.hand.items) }
+        ensures place { result ≡ draft_in (hold_on at (hand_with (λ k. k) self.now.hand.items (length self.now.hand.items))) }
     {
-        match self.place_on(at) {
-            Some(k) => {
-                if is_exclusive(self.hand[k].mode) {
-                    Some(k)
-                } else {
-                    None
-                }
-            }
-            None => None,
-        }
+        self.place_on(at).filter(|k| self.hand[*k].is_exclusive())
     }
 
     // Whether the station holds the record in a mode that conflicts.
     pub(crate) fn conflicts_on(&self, at: u32, mode: Mode) -> bool
-        requires { Sane self.now }
         ensures { result ≡ conflicts mode (hold_on at (held_by self.now)) }
     {
-        match self.place_on(at) {
-            Some(k) => conflict(mode, self.hand[k].mode),
-            None => false,
-        }
+        self.hold_on(at).is_some_and(|hold| hold.conflicts(mode))
     }
 
     // Whether the station owns the record in a mode that conflicts.
     pub(crate) fn owned_conflicts_on(&self, at: u32, mode: Mode) -> bool
-        requires { Sane self.now }
         ensures { result ≡ owned_conflicts mode (hold_on at (held_by self.now)) }
     {
-        match self.place_on(at) {
-            Some(k) => is_owned(self.hand[k].stage) & conflict(mode, self.hand[k].mode),
-            None => false,
-        }
+        self.hold_on(at)
+            .is_some_and(|hold| hold.is_owned() && hold.conflicts(mode))
     }
 
     // Whether the other station holds a record that this one holds exclusively.
     pub(crate) fn exclusive_in_common(&self, other: &Station) -> bool
-        requires { (Sane self.now) × (Sane other.now) }
         ensures { result ≡ exclusive_in_common (held_by self.now) (held_by other.now) }
     {
-        let mut some = false;
-        for k in 0..self.held {
-            let hold = self.hand[k];
-            some = (is_exclusive(hold.mode) & other.holds(hold.at)) | some;
-        }
-        some
+        self.hand
+            .iter()
+            .any(|hold| hold.is_exclusive() && other.holds(hold.at))
     }
 }

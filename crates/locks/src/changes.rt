@@ -1,38 +1,38 @@
 // Changes of the table. A station number at or past 16 names no station: nothing changes there.
 ghost use Rattle.std.specs.Prelude.{◌≡◌, ◌+◌, replicate, if◌then◌else◌, ◌==◌};
-ghost use Rattle.locks.specs.View.{stamp_at, active_at, member_of};
-ghost use Rattle.locks.specs.Changes.{idle_entry, begins, change, freed, started, awaiting, granted, again, retired_at, wounded_below};
+ghost use Rattle.std.specs.Fn.{FnOnceReturnsAtMut};
+ghost use Rattle.locks.specs.View.{HasRoom, no_station, stamp_at, active_at, member_of};
+ghost use Rattle.locks.specs.Changes.{begins, Change, Keeps, Does, change, freed, started, awaiting, granted, again, retired_at, wounded_below};
 
-use crate::station::{Hold, Phase, Station};
+use crate::set::StationSet;
+use crate::station::Station;
 use crate::table::{LAST_STAMP, LockTable};
-use rules::{Mode, Stage};
-
-// An idle station of a new table.
-fn idle_entry() -> Station
-    ensures { result ≡ idle_entry }
-{
-    let none = Hold {
-        at: 0,
-        mode: Mode::Shared,
-        stage: Stage::Owned,
-    };
-    Station {
-        phase: Phase::Idle,
-        hand: [none; 16],
-        held: 0,
-    }
-}
+use rules::Mode;
+use std::array;
 
 impl LockTable {
+    // Station s, if there is one, is changed. The change keeps the room of its hand, and makes no attempt.
+    fn change<F: FnOnce(&mut Station)>(&mut self, s: usize, by: F)
+        requires callable { (station : _) → HasRoom station.now → F.pre by station }
+        requires kept { (f : Change) × Keeps f × Does (λ old new. FnOnceReturnsAtMut F.FnOnce by old tt new) f }
+        ensures stations { (f : Change) → Does (λ old new. FnOnceReturnsAtMut F.FnOnce by old tt new) f → self.new.stations ≡ change f s self.old.stations }
+        ensures stamps { self.new.next ≡ self.old.next }
+        ensures commits { self.new.commits ≡ self.old.commits }
+    {
+        if s < 16 {
+            by(&mut self.stations[s]);
+        }
+    }
+
     // A table of idle stations; 0 as the first stamp counts as 1.
     pub fn new(first: u32) -> LockTable
-        ensures stations { result.stations ≡ replicate 16 idle_entry }
+        ensures stations { result.stations ≡ replicate 16 no_station }
         ensures stamps { result.next ≡ (if first == 0 then 1 else first) }
         ensures commits { result.commits ≡ 0 }
     {
         let next = if first == 0 { 1 } else { first };
         LockTable {
-            stations: [idle_entry(); 16],
+            stations: array::from_fn(|_| Station::new()),
             next,
             commits: 0,
         }
@@ -46,9 +46,9 @@ impl LockTable {
         ensures commits { self.new.commits ≡ self.old.commits }
     {
         let stamp = self.next;
-        if (s < 16) & (stamp <= LAST_STAMP) {
-            let entry = &mut self.stations[s];
-            entry.start(stamp);
+        if s < 16 && stamp <= LAST_STAMP {
+            // Not by `change`, which makes no attempt.
+            self.stations[s].start(stamp);
             self.next = stamp + 1;
         }
         stamp
@@ -62,10 +62,7 @@ impl LockTable {
         ensures commits { self.new.commits ≡ self.old.commits }
     {
         let stamp = self.stamp(s);
-        if s < 16 {
-            let entry = &mut self.stations[s];
-            entry.again();
-        }
+        self.change(s, |station| station.again());
         stamp
     }
 
@@ -75,10 +72,7 @@ impl LockTable {
         ensures stamps { self.new.next ≡ self.old.next }
         ensures commits { self.new.commits ≡ self.old.commits }
     {
-        if s < 16 {
-            let entry = &mut self.stations[s];
-            entry.wait(at, mode);
-        }
+        self.change(s, |station| station.wait(at, mode));
     }
 
     // The hold at a place of station s is retired.
@@ -87,10 +81,7 @@ impl LockTable {
         ensures stamps { self.new.next ≡ self.old.next }
         ensures commits { self.new.commits ≡ self.old.commits }
     {
-        if s < 16 {
-            let entry = &mut self.stations[s];
-            entry.retire(place);
-        }
+        self.change(s, |station| station.retire(place));
     }
 
     // What station s waits for becomes an owned hold.
@@ -99,22 +90,19 @@ impl LockTable {
         ensures stamps { self.new.next ≡ self.old.next }
         ensures commits { self.new.commits ≡ self.old.commits }
     {
-        if s < 16 {
-            let entry = &mut self.stations[s];
-            entry.grant();
-        }
+        self.change(s, |station| station.grant());
     }
 
     // The attempts of the members are wounded.
-    pub fn wound(&mut self, members: &[bool; 16])
+    pub fn wound(&mut self, members: &StationSet)
         ensures stations { self.new.stations ≡ wounded_below 16 (member_of members.now) self.old.stations }
         ensures stamps { self.new.next ≡ self.old.next }
         ensures commits { self.new.commits ≡ self.old.commits }
     {
-        for s in 0..16usize {
-            if members[s] {
-                let entry = &mut self.stations[s];
-                entry.wound();
+        // By station number: after a walk over `iter_mut` the proof would know nothing of the stations.
+        for s in 0..16 {
+            if members.contains(s) {
+                self.change(s, |station| station.wound());
             }
         }
     }
@@ -125,10 +113,7 @@ impl LockTable {
         ensures stamps { self.new.next ≡ self.old.next }
         ensures commits { self.new.commits ≡ self.old.commits }
     {
-        if s < 16 {
-            let entry = &mut self.stations[s];
-            entry.free();
-        }
+        self.change(s, |station| station.free());
     }
 
     // The attempt of station s, if there is one, is counted as committed, and the station is idle. Answers the commits so far.

@@ -8,6 +8,7 @@ mod changes;
 mod changing;
 mod granting;
 mod questions;
+pub mod set;
 pub mod station;
 pub mod table;
 pub mod wounding;

@@ -1,9 +1,9 @@
 // Questions to the whole table. A station number at or past 16 is an idle station in each.
-ghost use Rattle.std.specs.Prelude.{◌≡◌, ◌<◌, ◌≤◌, true, IfSome, MatchOption, slice_index_or};
+ghost use Rattle.std.specs.Prelude.{◌≡◌, ◌<◌, ◌≤◌, true, length, IfSome, MatchOption, slice_index_or};
 ghost use Rattle.rules.specs.Searches.{any_below};
-ghost use Rattle.rules.specs.Tables.{older, is_wounded};
+ghost use Rattle.rules.specs.Tables.{older, is_wounded, conflicts, hold_on};
 ghost use Rattle.rules.specs.Operations.{bonds, behind_bond};
-ghost use Rattle.locks.specs.View.{bare, no_station, stamp_at, active_at};
+ghost use Rattle.locks.specs.View.{bare, no_station, hand_at, stamp_at, active_at};
 ghost use Rattle.locks.specs.Asked.{binds_on, hold_at};
 
 use crate::station::{Hold, Station};
@@ -15,51 +15,36 @@ impl LockTable {
     pub(crate) fn stamp(&self, i: usize) -> u32
         ensures { result ≡ stamp_at self.now.stations i }
     {
-        if i < 16 { self.stations[i].stamp() } else { 0 }
+        self.stations.get(i).map_or(0, Station::stamp)
     }
 
     // Whether there is an attempt at station i.
     pub(crate) fn has_attempt(&self, i: usize) -> bool
         ensures { result ≡ active_at self.now.stations i }
     {
-        if i < 16 {
-            self.stations[i].has_attempt()
-        } else {
-            false
-        }
+        self.stations.get(i).map_or(false, Station::has_attempt)
     }
 
     // Whether the attempt of station i was wounded.
     pub fn is_wounded(&self, i: usize) -> bool
         ensures { result ≡ is_wounded (bare self.now.stations i).phase }
     {
-        if i < 16 {
-            self.stations[i].is_wounded()
-        } else {
-            false
-        }
+        self.stations.get(i).map_or(false, Station::is_wounded)
     }
 
     // How many records station i holds: the next hold comes to that place.
     pub fn held(&self, i: usize) -> usize
         ensures within { result ≤ 16 }
-        ensures held { result ≡ (slice_index_or self.now.stations i no_station).held }
+        ensures held { result ≡ length (hand_at self.now.stations i) }
     {
-        if i < 16 { self.stations[i].held } else { 0 }
+        self.stations.get(i).map_or(0, |station| station.hand.len())
     }
 
     // The hold at a place of station i, if the place is in use.
     pub fn hold(&self, i: usize, place: usize) -> Option<Hold>
         ensures { result ≡ hold_at (slice_index_or self.now.stations i no_station) place }
     {
-        if i >= 16 {
-            return None;
-        }
-        if place < self.stations[i].held {
-            Some(self.stations[i].hand[place])
-        } else {
-            None
-        }
+        self.stations.get(i)?.hand.get(place).copied()
     }
 
     // Whether station j is older than station i.
@@ -69,46 +54,42 @@ impl LockTable {
         self.stamp(j) < self.stamp(i)
     }
 
+    // Whether station j holds the record in a mode that conflicts.
+    pub(crate) fn conflicts_on(&self, j: usize, at: u32, mode: Mode) -> bool
+        ensures { result ≡ conflicts mode (hold_on at (bare self.now.stations j).hand) }
+    {
+        self.stations
+            .get(j)
+            .map_or(false, |station| station.conflicts_on(at, mode))
+    }
+
     // Whether station j is older than station i and holds the record in a mode that conflicts.
     fn binds(&self, i: usize, at: u32, mode: Mode, j: usize) -> bool
-        requires { j < 16 }
         ensures { result ≡ binds_on self.now.stations i at mode j }
     {
-        if self.older(j, i) {
-            self.stations[j].conflicts_on(at, mode)
-        } else {
-            false
-        }
+        self.older(j, i) && self.conflicts_on(j, at, mode)
     }
 
     // Whether a station that is older than station i holds the record in a mode that conflicts.
     fn bound_on(&self, i: usize, at: u32, mode: Mode) -> bool
         ensures { result ≡ any_below 16 (binds_on self.now.stations i at mode) }
     {
-        for j in 0..16usize {
-            if self.binds(i, at, mode, j) {
-                return true;
-            }
-        }
-        false
+        (0..16).any(|j| self.binds(i, at, mode, j))
     }
 
     // How many records station i holds on which an older holder has a conflicting mode.
     pub fn bonds(&self, i: usize) -> u32
         ensures { result ≡ bonds (bare self.now.stations) i }
     {
-        if i >= 16 {
+        let Some(station) = self.stations.get(i) else {
             return 0;
-        }
-        let held = self.stations[i].held;
-        let mut n = 0;
-        for k in 0..held {
-            let hold = self.stations[i].hand[k];
-            if self.bound_on(i, hold.at, hold.mode) {
-                n += 1;
-            }
-        }
-        n
+        };
+        let bound = station
+            .hand
+            .iter()
+            .filter(|hold| self.bound_on(i, hold.at, hold.mode))
+            .count();
+        bound as u32
     }
 
     // Whether station j is behind a bond of station i.
@@ -116,13 +97,10 @@ impl LockTable {
         requires { (i < 16) × (j < 16) }
         ensures { result ≡ behind_bond (bare self.now.stations) i j }
     {
-        let held = self.stations[i].held;
-        let mut some = false;
-        for k in 0..held {
-            let hold = self.stations[i].hand[k];
-            some = self.binds(i, hold.at, hold.mode, j) | some;
-        }
-        some
+        self.stations[i]
+            .hand
+            .iter()
+            .any(|hold| self.binds(i, hold.at, hold.mode, j))
     }
 
     // A station behind a bond of station i, if there are bonds.
@@ -133,11 +111,6 @@ impl LockTable {
         if i >= 16 {
             return None;
         }
-        for j in 0..16usize {
-            if self.behind_bond(i, j) {
-                return Some(j);
-            }
-        }
-        None
+        (0..16).find(|&j| self.behind_bond(i, j))
     }
 }

@@ -2,6 +2,7 @@ use Rattle.std.proofs.Common.{length, Some, sym, refl, ap, ◌∙◌}
 use Rattle.std.proofs.lemmas.Result.{err_from_is_err_and}
 use Rattle.rules.specs.declared.Answer.TheVariants.{Number}
 use Rattle.rules.specs.declared.Call.TheVariants.{Retire}
+use Rattle.rules.specs.Searches.{count_below}
 use Rattle.locks.specs.Admission.{refusal_in}
 use Rattle.engine.specs.View.{view, drafts_of, show_of, records_of, table_from}
 use Rattle.engine.proofs.Steps.{refused_step, accepted_step, true_not_false, kept_same}
@@ -35,7 +36,7 @@ returns g c =
       ruled =
           accepted_step apply (Retire s r) (view home g.S.Shelf.rows g.D.Shelf.rows c.args.self.now) _ _
           (retire_accepted apply home show drafts rows t u w s i k r n none records hold retires settles long next commits)
-          (retired_answer apply home show drafts rows t u w s i k r n none records hold retires settles long next commits c.waiting-waited.result c.waiting.result c.count_without.result c.waiting-waited.ensures c.waiting.ensures c.count_without.ensures)
+          (retired_answer apply home show drafts rows t u w s i k r n none records hold retires settles long next commits c.waiting-waited.result c.waiting.result c.count.result c.waiting-waited.ensures c.waiting.ensures (c.count.ensures ∙ ap (count_below 16) c.without.ensures))
           (ap (λ x. table_from home (g.S.Shelf.rows x) rows w) rest.same_show
           ∙ retired_table apply home show drafts rows t u w s i k r n none records hold retires settles long next commits);
       refused = λ e. true_not_false e;

@@ -1,4 +1,5 @@
 use Rattle.std.proofs.Common.{ap, ◌∙◌}
+use Rattle.rules.specs.Searches.{count_below}
 use Rattle.rules.specs.Operations.{settle}
 use Rattle.engine.specs.View.{drafts_of, show_of}
 use Rattle.engine.proofs.GivesUp.{withdrawn_view, withdrawn_served, others_counted}
@@ -12,7 +13,7 @@ returns g c =
     let alone = c.alone-own.ensures in let widened = c.widen-wounded.ensures in let wounds = c.wound.ensures.stations in let frees = c.free.ensures.stations in
     let rest = c.settle.ensures.rest in
     record {
-      number = others_counted (drafts_of home drafts) t u v s own members low acts alone widened wounds frees c.count_without.result c.count_without.ensures;
+      number = others_counted (drafts_of home drafts) t u v s own members low acts alone widened wounds frees c.count.result (c.count.ensures ∙ ap (count_below 16) c.without.ensures);
       stations = λ served.
           c.settle.ensures.stations (withdrawn_served (drafts_of home drafts) t u v s own members low acts alone widened wounds frees drafts served)
           ∙ ap (settle (show_of home (g.S.Shelf.rows c.args.self.now.show))) (withdrawn_view (drafts_of home drafts) t u v s own members low acts alone widened wounds frees);

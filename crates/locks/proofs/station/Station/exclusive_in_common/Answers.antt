@@ -1,11 +1,20 @@
-use Rattle.std.proofs.Common.{sym, ◌∙◌}
-use Rattle.rules.specs.Operations.{exclusive_in_common}
-use Rattle.locks.specs.View.{hand_with, held_by}
-use Rattle.locks.proofs.Turns.{and_both, or_both, one_more}
-use Rattle.locks.proofs.Hands.{exclusive_kept}
+use Rattle.std.proofs.Common.{rules, ◌≡◌, ◌&&◌, Bool, length, is_some, sym, ◌∙◌}
+use Rattle.std.specs.List.{list_any}
+use Rattle.std.proofs.lemmas.Iterator.{YieldsList-from_slice}
+use Rattle.std.proofs.lemmas.Iterator.Search.{any_from_yields_List}
+use Rattle.rules.specs.declared.Mode.TheVariants.{Shared}
+use Rattle.rules.specs.Tables.{conflict, hold_on}
+use Rattle.locks.specs.declared.station.Hold.{Hold}
+use Rattle.locks.specs.View.{no_hold, held_by}
+use Rattle.locks.proofs.Places.{any_by_place}
+use Rattle.locks.proofs.Hands.{common_by_place}
 use Rattle.locks.proofs.station.Station.exclusive_in_common.Goals as goal
 
-pub loop-k-preserved : goal.loop-k-preserved
-loop-k-preserved c =
-    or_both (and_both (c.is_exclusive.ensures ∙ sym (exclusive_kept _ (tt {0}))) c.holds.ensures) c.loop-k.invariant
-    ∙ sym (one_more (λ n. exclusive_in_common (hand_with (λ k. tt {0}) c.args.self.now.hand n) (held_by c.args.other.now)) c.loop-k.k)
+pub returns : goal.returns
+returns c =
+    let hand = c.args.self.now.hand.items in
+    let other = held_by c.args.other.now in
+    let shared : Hold → Bool = λ h. conflict Shared h.mode && is_some (hold_on h.at other) in
+    let found : c.any.result ≡ list_any shared hand =
+    any_from_yields_List shared _ _ c.any.result c.any.ensures.ran (YieldsList-from_slice hand (search rules)) (λ x b q k. search rules) in
+    found ∙ any_by_place shared no_hold hand ∙ sym (common_by_place (λ k. tt {0}) hand other (length hand))

@@ -1,21 +1,7 @@
-use Rattle.std.proofs.Common.{sym, ◌∙◌}
-use Rattle.rules.specs.Searches.{any_below}
-use Rattle.rules.proofs.Searches.{any_below_from}
+use Rattle.std.proofs.Common.{rules}
 use Rattle.locks.specs.Asked.{binds_on}
-use Rattle.locks.proofs.Turns.{none_more, all_turns}
+use Rattle.locks.proofs.Searches.{any_found}
 use Rattle.locks.proofs.table.LockTable.bound_on.Goals as goal
 
-pub loop-j-preserved : goal.loop-j-preserved
-loop-j-preserved c =
-    let p = binds_on c.args.self.now.stations c.args.i c.args.at c.args.mode in
-    none_more p c.loop-j.j c.loop-j.invariant (sym c.binds.ensures ∙ c.if-binds.false)
-
-pub returns-then-binds : goal.returns-then-binds
-returns-then-binds c =
-    let p = binds_on c.args.self.now.stations c.args.i c.args.at c.args.mode in
-    sym (any_below_from 16 p c.loop-j.j c.loop-j-test.true (sym c.binds.ensures ∙ c.if-binds.true))
-
 pub returns : goal.returns
-returns c =
-    let p = binds_on c.args.self.now.stations c.args.i c.args.at c.args.mode in
-    all_turns (λ n. any_below n p) _ _ 16 (sym c.loop-j.invariant) c.loop-j.auto.j-end c.loop-j-test.false
+returns c = any_found 16 (binds_on c.args.self.now.stations c.args.i c.args.at c.args.mode) _ c.any.ensures.ran (λ x b q k. search rules)

@@ -16,4 +16,4 @@ pub invariant_of-self : goal.invariant_of-self
 invariant_of-self c =
     let u = c.free.new.self in
     let fits = counted c in
-    record { full = u.full; hands = u.hands; room = u.room; stamped = omega (arith, fits, c.free.ensures.commits, c.free.ensures.stamps); width = u.width }
+    record { full = u.full; room = u.room; stamped = omega (arith, fits, c.free.ensures.commits, c.free.ensures.stamps); width = u.width }

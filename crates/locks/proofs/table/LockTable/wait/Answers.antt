@@ -1,13 +1,10 @@
-use Rattle.std.proofs.Common.{sym, refl, arith}
-use Rattle.std.proofs.lemmas.List.{set_past}
+use Rattle.std.proofs.Common.{rules}
 use Rattle.locks.specs.Changes.{awaiting}
-use Rattle.locks.proofs.Kept.{kept_by, awaiting_keeps}
+use Rattle.locks.proofs.Kept.{awaiting_keeps}
 use Rattle.locks.proofs.table.LockTable.wait.Goals as goal
 
-pub invariant_of-self : goal.invariant_of-self
-invariant_of-self c =
-    let t = c.args.self.now in
-    kept_by (awaiting c.args.at c.args.mode) (awaiting_keeps c.args.at c.args.mode) t.stations c.args.s t.next t.commits c.wait.new.self c.if-s-lt16.true c.wait.ensures t.full t.hands t.room t.stamped t.width
+pub change-requires-clause-kept : goal.change-requires-clause-kept
+change-requires-clause-kept c = (awaiting c.args.at c.args.mode, awaiting_keeps c.args.at c.args.mode, λ old new left. search rules)
 
-pub returns-else-s-lt16 : goal.returns-else-s-lt16
-returns-else-s-lt16 c = record { stations = sym (set_past _ _ _ (omega arith)); stamps = refl; commits = refl }
+pub returns-clause-stations : goal.returns-clause-stations
+returns-clause-stations c = c.change.ensures.stations (awaiting c.args.at c.args.mode) (λ old new left. search rules)

@@ -1,28 +1,23 @@
-use Rattle.std.proofs.Common.{◌+◌, ◌-◌, sym, ap, ◌∙◌, arith, length-set}
+use Rattle.std.proofs.Common.{◌<◌, sym, subst, arith}
 use Rattle.locks.specs.View.{bare, member_of}
-use Rattle.locks.specs.Asked.{widen_within}
-use Rattle.locks.proofs.Widening.{member_written, widen_joined, widen_closed, widen_over, widen_all, one_fewer}
+use Rattle.locks.proofs.Widening.{outside, Widens, widens_from, widens_joined, widens_closed, fewer_outside}
 use Rattle.locks.proofs.table.LockTable.widen.Goals as goal
 
-pub loop-round-preserved : goal.loop-round-preserved
-loop-round-preserved c =
-    let t = bare c.args.self.now.stations in
-    let n = c.loop-round._round in (
-      length-set _ _ _ ∙ c.loop-round.invariant.0,
-      ap (widen_within t (16 - (n + 1))) (member_written c.loop-round.widened c.in-Some.k (omega (arith, c.in-Some.ensures.within, c.loop-round.invariant.0)))
-          ∙ sym (widen_joined t (16 - n) (16 - (n + 1)) c.in-Some.k (member_of c.loop-round.widened) (one_fewer n c.loop-round-test.true) c.in-Some.ensures.first)
-          ∙ c.loop-round.invariant.1,
-    )
+pub loop-k-init : goal.loop-k-init
+loop-k-init c = widens_from (bare c.args.self.now.stations) (member_of c.args.members)
 
-pub returns-in-None : goal.returns-in-None
-returns-in-None c =
+pub loop-k-smaller : goal.loop-k-smaller
+loop-k-smaller c =
     let t = bare c.args.self.now.stations in
-    let n = c.loop-round._round in
-    sym (widen_closed t (16 - n) (16 - (n + 1)) (member_of c.loop-round.widened) (one_fewer n c.loop-round-test.true) c.in-None.ensures.first)
-    ∙ c.loop-round.invariant.1 ∙ widen_all t (member_of c.args.members)
+    let members = member_of c.loop-k.widened in
+    let fewer = fewer_outside t members c.in-Some.k c.in-Some.ensures.first in
+    subst (λ ms. outside ms < outside members) (sym c.insert.ensures) (omega (arith, fewer))
+
+pub loop-k-preserved : goal.loop-k-preserved
+loop-k-preserved c =
+    let t = bare c.args.self.now.stations in
+    subst (Widens t (member_of c.args.members)) (sym c.insert.ensures)
+    (widens_joined t (member_of c.loop-k.widened) c.in-Some.k c.in-Some.ensures.first (member_of c.args.members) c.loop-k.invariant)
 
 pub returns : goal.returns
-returns c =
-    let t = bare c.args.self.now.stations in
-    sym (widen_over t (16 - c.loop-round._round) (member_of c.loop-round.widened) (omega arith))
-    ∙ c.loop-round.invariant.1 ∙ widen_all t (member_of c.args.members)
+returns c = widens_closed (bare c.args.self.now.stations) (member_of c.args.members) (member_of c.loop-k.widened) c.loop-k.invariant c.in_default.ensures.first

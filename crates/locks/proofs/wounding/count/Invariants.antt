@@ -1,7 +1,0 @@
-use Rattle.std.proofs.Common.{◌≡◌, ◌≤◌}
-use Rattle.rules.specs.Searches.{count_below}
-use Rattle.locks.specs.View.{member_of}
-use Rattle.locks.proofs.wounding.count.Given as goal
-
-abbrev pub invariant-loop-i : goal.invariant-loop-i
-invariant-loop-i l = (l.n ≤ l.i) × (l.n ≡ count_below l.i (member_of l.members))
