@@ -38,12 +38,12 @@ module _ {V C : Type 0} (apply : V → C → V) where
     pub holds_observed : (r : ℕ) → a.held r ≡ held_mode (hold_on r (t i).hand)
     pub wait_observed : (r : ℕ) (m : Mode) → (t i).phase ≡ waiting r m → a.awaiting ≡ Some (r, m)
 
-  -- so is what was observed of it in call c with answer a, from the stations t to the stations s
+  -- what was observed of it by the end of call c, which answered a and took the stations t to the stations s, is so in s
   abbrev pub MatchesAfter : Stations V → Stations V → (ℕ → V) → Observation V C → Call C → Answer V → ℕ → Type 0
   MatchesAfter t s show o c a i = Matches s show i
       (continued (suc o.started) (state_of (t i).phase) (state_of (s i).phase) (event c a i) (o.attempts i))
 
-  -- so is the attempt with what it waited for, if its station was granted that between the stations t and the stations s
+  -- attempt a, granted what it waits for if its station turns to running between the stations t and the stations s, is so in s
   abbrev pub MatchesMoved : Stations V → Stations V → (ℕ → V) → ℕ → Attempt V C → Type 0
   MatchesMoved t s show i a = Matches s show i
       (with_grant (cond (turned (state_of (t i).phase) (state_of (s i).phase)) a.awaiting None) a)

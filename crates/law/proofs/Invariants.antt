@@ -118,13 +118,13 @@ pub adding_nothing_keeps : {V : Type 0} {t : Stations V} (t' : Stations V) {next
     → ((i : ℕ) → AddsNothing (t i) (t' i)) → Invariant t' next records
 adding_nothing_keeps t' v s = grind (arith, works_not_idle, waiting_works, holder_at_work)
 
--- so do the stations with one such put
+-- one station put so that nothing is added keeps the invariants
 pub put_keeps : {V : Type 0} {t : Stations V} {next records : ℕ} → Invariant t next records → (k : ℕ) (x : Station V)
     → AddsNothing (t k) x → Invariant (put t k x) next records
 put_keeps {t = t} v k x s = adding_nothing_keeps (put t k x) v
     (λ i. put_cases (AddsNothing (t i)) t k x i (λ e. rw e s) (λ _. unchanged_adds_nothing (t i) (v.empty_handed i)))
 
--- so do the stations with one put idle
+-- one station put idle keeps the invariants
 pub idle_keeps : {V : Type 0} {t : Stations V} {next records : ℕ} → Invariant t next records → (k : ℕ)
     → Invariant (put t k idle_station) next records
 idle_keeps {t = t} v k = put_keeps v k idle_station (emptied_adds_nothing (t k) idle_station refl refl (λ q. cc))
