@@ -42,9 +42,9 @@ pub extern "C" fn bench_read_levels(image: &mut [u8], numbers: &mut [u16]) -> us
 {
     let shelf = BlockShelf { image };
     let mut got = 0;
-    for n in 0..numbers.len() {
+    for (n, number) in numbers.iter_mut().enumerate() {
         if let Some(level) = Shelf::<Levels>::read(&shelf, n) {
-            numbers[n] = level.value;
+            *number = level.value;
             got += 1;
         }
     }

@@ -1,17 +1,8 @@
 -- The loops of the check: one more check passed, or the first fault.
-use Rattle.std.proofs.Common.{◌≡◌, ℕ, zero, suc, ◌+◌, ◌-◌, ◌<◌, ◌≤◌, Bool, List, Ok, Err, Decides, sym, refl, ap, ◌∙◌, ⊎_elim, arith, rules}
-use Rattle.std.specs.Str.{bytes_eq}
-use Rattle.std.proofs.lemmas.Slice.Eq.{bytes_eq-Decides}
+use Rattle.std.proofs.Common.{◌≡◌, ℕ, zero, suc, ◌+◌, ◌-◌, ◌<◌, ◌≤◌, Ok, Err, sym, refl, ap, ◌∙◌, ⊎_elim, arith}
 use Rattle.std.proofs.lemmas.Bool.{cases_eq}
 use Rattle.image.specs.declared.fault.Fault.{Fault}
 use Rattle.image.specs.Faults.{Verdict, and_then, check_each}
-
--- a comparison of bytes answers whether they are the same
-pub compared : (xs ys zs ws : List ℕ) (r : Bool) → Decides r (xs ≡ ys) → xs ≡ zs → ys ≡ ws → r ≡ bytes_eq zs ws
-compared xs ys zs ws r h e f = decided xs ys r h ∙ ap (λ (t : List ℕ). bytes_eq t ys) e ∙ ap (bytes_eq zs) f
-  where
-    decided : (xs ys : List ℕ) (r : Bool) → Decides r (xs ≡ ys) → r ≡ bytes_eq xs ys
-    decided xs ys r h = search (rules, bytes_eq-Decides)
 
 module _ (check : ℕ → Verdict) where
   first : (n k : ℕ) → k < n → check_each check k (n - k) ≡ and_then (check k) (check_each check (k + 1) (n - (k + 1)))

@@ -1,4 +1,5 @@
 pub mod Parts
+pub mod Chunks
 pub mod Blocks
 pub mod RowsWritten
 pub mod FirstFault

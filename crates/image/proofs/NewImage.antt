@@ -1,29 +1,33 @@
 -- A new image: its header, row after row, and block after block.
-use Rattle.std.proofs.Common.{◌≡◌, ℕ, ◌+◌, ◌*◌, ◌<◌, ◌≤◌, List, [], ◌∷◌, length, get_or, sym, refl, ap, ◌∙◌, subst, ⊎_elim, arith}
-use borrow.Rule.Slice.PartMut.{put_mid}
-use Rattle.std.proofs.lemmas.Slice.{put_mid-paste}
+use Rattle.std.proofs.Common.{◌≡◌, ℕ, ◌+◌, ◌*◌, ◌<◌, ◌≤◌, List, [], ◌∷◌, ◌++◌, length, get_or, take, drop, sym, ap, ◌∙◌, subst, ⊎_elim, arith, length-append, length-drop, length-take}
 use Rattle.std.proofs.lemmas.Bool.{cases_eq}
 use Rattle.image.specs.Blocks.{part, closed, row_of, with_row}
 use Rattle.image.specs.Images.{block_of, with_block}
 use Rattle.image.specs.Sound.{BlockOf}
-use Rattle.image.proofs.Parts.{get_d_part}
-use Rattle.image.proofs.Blocks.{row_written_is, row_written_other, header_stays}
+use Rattle.image.proofs.Parts.{get_d_part, between_is}
+use Rattle.image.proofs.Blocks.{length_with_row, row_written_is, row_written_other, header_stays}
 use Rattle.image.proofs.RowsWritten.{block_written_is, block_written_other}
 use Rattle.image.proofs.Sound.{closed_over}
 
--- one row more is filled, and the header stays
-pub row_filled : (b start : List ℕ) (k : ℕ) (row : List ℕ) (w : ℕ) (ys : List ℕ) → length b ≡ 512 → k < 31 → length row ≡ 16 → w ≡ 16 → ys ≡ row
-    → ((i : ℕ) → i < 8 → get_or b i 0 ≡ get_or start i 0) × ((j : ℕ) → j < k → row_of b j ≡ row)
-    → ((i : ℕ) → i < 8 → get_or (put_mid (8 + 16 * k) w b ys) i 0 ≡ get_or start i 0) × ((j : ℕ) → j < k + 1 → row_of (put_mid (8 + 16 * k) w b ys) j ≡ row)
-row_filled b start k row w ys long low wide e h so =
-    let put : put_mid (8 + 16 * k) w b ys ≡ with_row b k row = put_mid-paste (8 + 16 * k) w b ys row 16 h (sym e) (sym wide) in (
-      λ i g. ap (λ (t : List ℕ). get_or t i 0) put ∙ header_stays b k row long low wide i g ∙ so.0 i g,
-      λ j g. ap (λ (t : List ℕ). row_of t j) put ∙
+-- a block whose first k rows are filled, and whose header is as it was
+pub record RowsFilled (start row b : List ℕ) (k : ℕ) : Type 0 where
+  pub long : length b ≡ 512
+  pub header : (i : ℕ) → i < 8 → get_or b i 0 ≡ get_or start i 0
+  pub rows : (j : ℕ) → j < k → row_of b j ≡ row
+
+-- one row more is filled
+pub row_filled : (start row b b' : List ℕ) (k : ℕ) → k < 31 → length row ≡ 16 → RowsFilled start row b k → b' ≡ with_row b k row → RowsFilled start row b' (k + 1)
+row_filled start row b b' k low wide so e =
+    let long = so.long in
+    record {
+      long = ap length e ∙ length_with_row b k row long low wide;
+      header = λ i h. ap (λ (t : List ℕ). get_or t i 0) e ∙ header_stays b k row long low wide i h ∙ so.header i h;
+      rows = λ j h. ap (λ (t : List ℕ). row_of t j) e ∙
           ⊎_elim
           (λ (s : j ≡ k). ap (row_of (with_row b k row)) s ∙ row_written_is b k row long low wide)
-          (λ (ne : j ≡ k → ⊥). row_written_other b k row long low wide j (omega arith) ne ∙ so.1 j (omega (arith, ne)))
-          (cases_eq j k),
-    )
+          (λ (ne : j ≡ k → ⊥). row_written_other b k row long low wide j (omega arith) ne ∙ so.rows j (omega (arith, ne)))
+          (cases_eq j k);
+    }
 
 -- a block with the header of block q, closed over rows that are all the same
 pub new_block_of : (kind q : ℕ) (row h b : List ℕ) → length b ≡ 512 → part h 0 8 ≡ q ∷ 0 ∷ kind ∷ 0 ∷ 0 ∷ 0 ∷ 0 ∷ 0 ∷ []
@@ -41,13 +45,18 @@ new_block_of kind q row h b long e header rows =
     zero_from_four : (i : ℕ) → 4 ≤ i → get_or (q ∷ 0 ∷ kind ∷ 0 ∷ 0 ∷ 0 ∷ 0 ∷ 0 ∷ []) i 0 ≡ 0
     zero_from_four i f = grind arith
 
--- one block more is new
-pub block_made : (kind : ℕ) (row image : List ℕ) (q w : ℕ) (b : List ℕ) → 512 * q + 512 ≤ length image → w ≡ 512 → length b ≡ 512
-    → ((p : ℕ) → p < q → BlockOf kind (λ bytes. bytes ≡ row) p (block_of image p)) → BlockOf kind (λ bytes. bytes ≡ row) q b
-    → (p : ℕ) → p < q + 1 → BlockOf kind (λ bytes. bytes ≡ row) p (block_of (put_mid (512 * q) w image b) p)
-block_made kind row image q w b room e wide so new p h =
+-- one block more is new, written between what is before it and what is after it
+pub block_made : (kind : ℕ) (row image front back : List ℕ) (q : ℕ) (b : List ℕ) → 512 * q + 512 ≤ length image → front ≡ take (512 * q) image → back ≡ drop (512 * q) image
+    → length (front ++ (b ++ drop 512 back)) ≡ length image → ((p : ℕ) → p < q → BlockOf kind (λ bytes. bytes ≡ row) p (block_of image p)) → BlockOf kind (λ bytes. bytes ≡ row) q b
+    → (p : ℕ) → p < q + 1 → BlockOf kind (λ bytes. bytes ≡ row) p (block_of (front ++ (b ++ drop 512 back)) p)
+block_made kind row image front back q b room before after same so new p h =
+    let f : length front ≡ 512 * q = ap length before ∙ length-take (512 * q) image ∙ omega arith in
+    let r : length back + 512 * q ≡ length image = let e = ap length after ∙ length-drop (512 * q) image in omega arith in
+    let d = length-drop 512 back in
+    let a = length-append front (b ++ drop 512 back) in let i = length-append b (drop 512 back) in
+    let wide : length b ≡ 512 = omega arith in
     let P : List ℕ → Type 0 = BlockOf kind (λ bytes. bytes ≡ row) p in
-    let put : put_mid (512 * q) w image b ≡ with_block image q b = put_mid-paste (512 * q) w image b b 512 refl (sym e) (sym wide) in
+    let put : front ++ (b ++ drop 512 back) ≡ with_block image q b = between_is image front back b (512 * q) 512 before after wide in
     subst P (sym (ap (λ (t : List ℕ). block_of t p) put))
     (⊎_elim
     (λ (s : p ≡ q). subst P (sym (ap (block_of (with_block image q b)) s ∙ block_written_is image q b room wide)) (subst (λ (r : ℕ). BlockOf kind (λ bytes. bytes ≡ row) r b) (sym s) new))

@@ -11,10 +11,6 @@ length_part d at n h = let k = length-drop at d in length-take n (drop at d) ∙
 pub get_d_part : (d : List ℕ) (at n j : ℕ) → j < n → get_or (part d at n) j 0 ≡ get_or d (at + j) 0
 get_d_part d at n j h = get_or-take n (drop at d) j 0 h ∙ get_or-drop at d j 0
 
--- a part whose width is computed
-pub part_as : (d : List ℕ) (at n w : ℕ) → w ≡ n → part d at w ≡ part d at n
-part_as d at n w e = ap (λ (m : ℕ). part d at m) e
-
 -- a part is a list of the same bytes
 pub part_is : (d s : List ℕ) (at n : ℕ) → at + n ≤ length d → length s ≡ n → ((j : ℕ) → j < n → get_or d (at + j) 0 ≡ get_or s j 0) → part d at n ≡ s
 part_is d s at n h wide each =
@@ -108,3 +104,12 @@ paste_same d at n s le e =
     ∙ ap (λ t. take at d ++ (take n (drop at d) ++ t)) (sym (drop-drop n at d))
     ∙ ap (λ t. take at d ++ t) (take-append-drop n (drop at d))
     ∙ take-append-drop at d
+
+-- a part written between what is before it and what is after it
+pub between_is : (d front back s : List ℕ) (at n : ℕ) → front ≡ take at d → back ≡ drop at d → length s ≡ n → front ++ (s ++ drop n back) ≡ paste d at s n
+between_is d front back s at n before after wide =
+    ap (λ (t : List ℕ). t ++ (s ++ drop n back)) before
+    ∙ ap (λ (t : List ℕ). take at d ++ (s ++ drop n t)) after
+    ∙ ap (λ (t : List ℕ). take at d ++ (s ++ t)) (drop-drop n at d)
+    ∙ sym (append_assoc (take at d) s (drop (at + n) d))
+    ∙ ap (λ (t : List ℕ). (take at d ++ t) ++ drop (at + n) d) (sym (take_all n s (omega arith)))

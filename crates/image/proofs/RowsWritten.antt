@@ -1,15 +1,13 @@
 -- The rows of an image, and what writing one of them does to each.
-use Rattle.std.proofs.Common.{◌≡◌, ℕ, ◌+◌, ◌*◌, ◌/◌, ◌%◌, ◌<◌, ◌≤◌, Bool, cond, List, map, length, get_or, set, Some, None, Ok, Result, sym, ap, ◌∙◌, inl, inr, ⊎_elim, arith, length-set, le-ltb, lt-ltb}
-use borrow.Rule.Slice.PartMut.{put_mid}
+use Rattle.std.proofs.Common.{◌≡◌, ℕ, ◌+◌, ◌*◌, ◌/◌, ◌%◌, ◌<◌, ◌≤◌, Bool, cond, List, ◌++◌, map, length, get_or, take, drop, set, Some, None, Ok, Result, sym, ap, ◌∙◌, inl, inr, ⊎_elim, arith, length-set, le-ltb, lt-ltb}
 use Rattle.std.specs.List.{range_with_len, slice_get}
 use Rattle.std.proofs.lemmas.List.FromFn.{length-map-range_with_len, get_or-map-range_with_len}
 use Rattle.std.proofs.lemmas.List.{same_lists, get_or-set_same, get_or-set_other, set_past}
 use Rattle.std.proofs.lemmas.Option.{slice_get-get_or, slice_get_past}
-use Rattle.std.proofs.lemmas.Slice.{put_mid-paste}
 use Rattle.std.proofs.lemmas.Bool.{cases_lt, cases_eq}
-use Rattle.image.specs.Blocks.{part, closed, row_of, with_row}
+use Rattle.image.specs.Blocks.{closed, row_of, with_row}
 use Rattle.image.specs.Images.{row_count, block_of, with_block, row_bytes, or_home, image_rows, row_written, image_written}
-use Rattle.image.proofs.Parts.{length_part, part_of_part, part_written, part_apart, length_paste}
+use Rattle.image.proofs.Parts.{length_part, part_written, part_apart, length_paste, between_is}
 use Rattle.image.proofs.Blocks.{length_closed, closed_row, length_with_row, row_written_is, row_written_other}
 
 -- an image with another block q
@@ -24,10 +22,6 @@ module _ (image : List ℕ) (q : ℕ) (b : List ℕ) (room : 512 * q + 512 ≤ l
   block_written_other p h ne =
       part_apart image (512 * q) b 512 room wide (512 * p) 512 h
       (⊎_elim (λ (u : p < q). inl (omega arith)) (λ (u : q ≤ p). inr (omega (arith, ne))) (cases_lt p q))
-
--- the bytes of row n, read straight from the image
-pub row_read : (image : List ℕ) (n : ℕ) → n < row_count (length image) → part image (512 * (n / 31) + (8 + 16 * (n % 31))) 16 ≡ row_bytes image n
-row_read image n h = sym (part_of_part image (512 * (n / 31)) 512 (8 + 16 * (n % 31)) 16 (omega arith) (omega arith))
 
 -- an image with row n written
 module _ (image : List ℕ) (n : ℕ) (bytes : List ℕ) (inside : n < row_count (length image)) (wide : length bytes ≡ 16) where
@@ -75,12 +69,14 @@ module _ (image : List ℕ) (n : ℕ) (bytes : List ℕ) (inside : n < row_count
       (λ (apart : m / 31 ≡ n / 31 → ⊥). ap (λ t. row_of t (m % 31)) (other_block (m / 31) (omega arith) apart))
       (cases_eq (m / 31) (n / 31))
 
--- the write through a part of the image that is 512 bytes wide
-pub part_closed : (image : List ℕ) (n : ℕ) (bytes : List ℕ) (w : ℕ) (ys : List ℕ) → n < row_count (length image) → length bytes ≡ 16 → w ≡ 512
-    → ys ≡ closed (with_row (part image (512 * (n / 31)) w) (n % 31) bytes) → put_mid (512 * (n / 31)) w image ys ≡ row_written image n bytes
-part_closed image n bytes w ys inside wide e h =
-    put_mid-paste (512 * (n / 31)) w image ys (closed (with_row (block_of image (n / 31)) (n % 31) bytes)) 512
-    (h ∙ ap (λ (k : ℕ). closed (with_row (part image (512 * (n / 31)) k) (n % 31) bytes)) e) (sym e) (sym (closed_long image n bytes inside wide))
+-- the write through a block that is lent
+pub block_closed : (image : List ℕ) (n : ℕ) (row front back block block' : List ℕ) → n < row_count (length image) → length row ≡ 16
+    → front ≡ take (512 * (n / 31)) image → back ≡ drop (512 * (n / 31)) image → block ≡ take 512 back → block' ≡ closed (with_row block (n % 31) row)
+    → front ++ (block' ++ drop 512 back) ≡ row_written image n row
+block_closed image n row front back block block' inside wide before after first e =
+    let there : block ≡ block_of image (n / 31) = first ∙ ap (take 512) after in
+    let now : block' ≡ closed (with_row (block_of image (n / 31)) (n % 31) row) = e ∙ ap (λ (b : List ℕ). closed (with_row b (n % 31) row)) there in
+    between_is image front back block' (512 * (n / 31)) 512 before after (ap length now ∙ closed_long image n row inside wide) ∙ ap (with_block image (n / 31)) now
 
 -- a list made from a function of the place, written at one place
 set_counted : {X : Type 0} (f g : ℕ → X) (n i : ℕ) (y : X) → i < n → g i ≡ y → ((k : ℕ) → k < n → (k ≡ i → ⊥) → g k ≡ f k) → map g (range_with_len 0 n) ≡ set (map f (range_with_len 0 n)) i y

@@ -1,5 +1,6 @@
 -- A block of 512 bytes: number 0-1, kind 2, mark 3, zeros 4-7, 31 rows of 16 bytes from 8 on, check 504-511.
-use Rattle.std.specs.Prelude.{ℕ, zero, suc, ◌+◌, ◌*◌, List, [], ◌∷◌, take, drop, replicate, bit_xor, slice_index, slice_set}
+use Rattle.std.specs.Prelude.{ℕ, zero, suc, ◌+◌, ◌*◌, List, [], ◌∷◌, map, take, drop, replicate, bit_xor, slice_index, slice_set}
+use Rattle.std.specs.List.{fold, range_with_len}
 use Rattle.std.specs.Simd.Lanes.{zip2}
 use Rattle.std.proofs.Math.Seq.{paste}
 
@@ -31,10 +32,13 @@ closed b = checked (slice_set b 3 0)
 abbrev pub row_of : List ℕ → ℕ → List ℕ
 row_of b k = part b (8 + 16 * k) 16
 
+-- the first m rows, row 0 first; a block has 31
+unfoldable pub first_rows : List ℕ → ℕ → List (List ℕ)
+first_rows b m = map (row_of b) (range_with_len 0 m)
+
 -- the exclusive or of the first m rows, byte by byte
 abbrev pub row_xors : List ℕ → ℕ → List ℕ
-row_xors b zero = replicate 16 0
-row_xors b (suc m) = zip2 bit_xor (row_xors b m) (row_of b m)
+row_xors b m = fold (zip2 bit_xor) (replicate 16 0) (first_rows b m)
 
 -- the block with other bytes in row k
 abbrev pub with_row : List ℕ → ℕ → List ℕ → List ℕ

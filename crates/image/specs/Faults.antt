@@ -1,5 +1,5 @@
 -- The check of an image: the first fault of the first block that has one, tested in this order.
-use Rattle.std.specs.Prelude.{ℕ, zero, suc, ◌+◌, ◌/◌, ◌%◌, Bool, cond, ◌&&◌, List, ◌++◌, length, drop, Ok, Err, codes, decimal, Result, ◌==◌, nat_le, slice_index}
+use Rattle.std.specs.Prelude.{ℕ, zero, suc, ◌+◌, ◌/◌, ◌%◌, Bool, cond, ◌&&◌, List, ◌++◌, length, drop, Some, None, Ok, Err, codes, decimal, Option, Result, ◌==◌, nat_le, slice_index}
 use Rattle.std.specs.Str.{bytes_eq}
 use Rattle.values.specs.Packing.{number_at}
 use Rattle.image.specs.Blocks.{checks, row_of}
@@ -64,6 +64,23 @@ image_check kind unpacked image =
     cond (whole_blocks (length image))
     (blocks_check kind unpacked image)
     (Err Length)
+
+-- the block that a fault names, and the row's place in it where a row is the fault
+abbrev pub named_block : Fault → Option ℕ
+named_block Length = None
+named_block (Number q) = Some q
+named_block (Kind q) = Some q
+named_block (Mark q) = Some q
+named_block (Check q) = Some q
+named_block (Row q k byte) = Some q
+
+abbrev pub named_row : Fault → Option ℕ
+named_row Length = None
+named_row (Number q) = None
+named_row (Kind q) = None
+named_row (Mark q) = None
+named_row (Check q) = None
+named_row (Row q k byte) = Some k
 
 -- the refusal's number
 abbrev pub refusal_number : Fault → ℕ

@@ -1,11 +1,10 @@
 // The check of an image, block by block; it answers the first fault.
 ghost use Rattle.std.specs.Prelude.{◌≡◌, ◌<◌, true, length, Ok, ◌==◌, slice_index};
 ghost use Rattle.values.specs.Packing.{number_at};
-ghost use Rattle.image.specs.Blocks.{row_of};
 ghost use Rattle.image.specs.Faults.{whole_blocks, clear, check_fits, rows_check, block_check, blocks_check, image_check};
 ghost use Rattle.image.specs.Sound.{Sound};
 
-use crate::block::check_of;
+use crate::block::{Block, check_of, rows_of};
 use crate::fault::Fault;
 use values::kind::Kind;
 
@@ -13,7 +12,7 @@ use values::kind::Kind;
 pub fn is_whole(length: usize) -> bool
     ensures { result ≡ whole_blocks length }
 {
-    (length % 512 == 0) & (1 <= length / 512) & (length / 512 <= 64)
+    length % 512 == 0 && (1..=64).contains(&(length / 512))
 }
 
 // Checks an image of kind K. An image passes just when it is sound.
@@ -32,22 +31,20 @@ fn check_blocks<K: Kind>(image: &[u8]) -> Result<(), Fault>
     requires { whole_blocks (length image.now) ≡ true }
     ensures { result ≡ blocks_check K.Kind.NUMBER K.Kind.unpacked image.now }
 {
-    let count = (image.len() / 512) as u8;
-    for q in 0..count {
-        let at = 512 * q as usize;
-        check_block::<K>(&image[at..at + 512], q)?;
+    let (blocks, _) = image.as_chunks();
+    for (q, block) in blocks.iter().enumerate() {
+        check_block::<K>(block, q as u8)?;
     }
     Ok(())
 }
 
-fn check_block<K: Kind>(block: &[u8], q: u8) -> Result<(), Fault>
-    requires { length block.now ≡ 512 }
+fn check_block<K: Kind>(block: &Block, q: u8) -> Result<(), Fault>
     ensures { result ≡ block_check K.Kind.NUMBER K.Kind.unpacked q block.now }
 {
-    if !number_is(block, q) {
+    if u16::from_le_bytes([block[0], block[1]]) != u16::from(q) {
         return Err(Fault::Number { block: q });
     }
-    if !kind_is(block, K::NUMBER) {
+    if block[2] != K::NUMBER {
         return Err(Fault::Kind { block: q });
     }
     if !is_clear(block) {
@@ -59,58 +56,31 @@ fn check_block<K: Kind>(block: &[u8], q: u8) -> Result<(), Fault>
     check_rows::<K>(block, q)
 }
 
-fn number_is(block: &[u8], q: u8) -> bool
-    requires { length block.now ≡ 512 }
-    ensures { result ≡ (number_at block.now 0 == q) }
-{
-    u16::from_le_bytes([block[0], block[1]]) == u16::from(q)
-}
-
-fn kind_is(block: &[u8], kind: u8) -> bool
-    requires { length block.now ≡ 512 }
-    ensures { result ≡ (slice_index block.now 2 == kind) }
-{
-    block[2] == kind
-}
-
 // Whether the mark and the four bytes after it are 0.
-fn is_clear(block: &[u8]) -> bool
-    requires { length block.now ≡ 512 }
+fn is_clear(block: &Block) -> bool
     ensures { result ≡ clear block.now }
 {
-    (block[3] == 0) & (block[4] == 0) & (block[5] == 0) & (block[6] == 0) & (block[7] == 0)
+    block[3..8].iter().all(|byte| *byte == 0)
 }
 
-fn check_fits(block: &[u8]) -> bool
-    requires { length block.now ≡ 512 }
+fn check_fits(block: &Block) -> bool
     ensures { result ≡ check_fits block.now }
 {
-    let check = check_of(block);
-    &check[..] == &block[504..]
+    check_of(block)[..] == block[504..]
 }
 
-fn check_rows<K: Kind>(block: &[u8], q: u8) -> Result<(), Fault>
-    requires { length block.now ≡ 512 }
+fn check_rows<K: Kind>(block: &Block, q: u8) -> Result<(), Fault>
     ensures { result ≡ rows_check K.Kind.unpacked q block.now }
 {
-    for k in 0..31u8 {
-        if let Err(byte) = K::unpack(row_of(block, k)) {
+    let rows = rows_of(block);
+    for (k, row) in rows.iter().enumerate() {
+        if let Err(byte) = K::unpack(*row) {
             return Err(Fault::Row {
                 block: q,
-                row: k,
+                row: k as u8,
                 byte,
             });
         }
     }
     Ok(())
-}
-
-fn row_of(block: &[u8], k: u8) -> [u8; 16]
-    requires { (length block.now ≡ 512) × (k < 31) }
-    ensures { result ≡ row_of block.now k }
-{
-    let at = 8 + 16 * k as usize;
-    let mut bytes = [0; 16];
-    bytes.copy_from_slice(&block[at..at + 16]);
-    bytes
 }

@@ -1,10 +1,11 @@
 // What the check of an image finds first.
 ghost use Rattle.std.specs.Prelude.{◌≡◌, Some};
-ghost use Rattle.image.specs.Faults.{refusal_number, fault_text};
+ghost use Rattle.image.specs.Faults.{named_block, named_row, refusal_number, fault_text};
 
+use std::error::Error;
 use std::fmt;
 
-#[derive(Clone, Copy, PartialEq, Debug)]
+#[derive(Clone, Copy, Debug, PartialEq, Eq)]
 pub enum Fault {
     // The image is not 1 to 64 whole blocks.
     Length,
@@ -21,11 +22,37 @@ pub enum Fault {
 }
 
 impl Fault {
-    // The refusal's number.
-    pub fn number(self) -> u32
-        ensures { result ≡ refusal_number self }
+    // The block that the fault names.
+    pub fn block(self) -> Option<u8>
+        ensures { result ≡ named_block self }
     {
         match self {
+            Fault::Length => None,
+            Fault::Number { block }
+            | Fault::Kind { block }
+            | Fault::Mark { block }
+            | Fault::Check { block }
+            | Fault::Row { block, .. } => Some(block),
+        }
+    }
+
+    // The row that the fault names, by its place in the block.
+    pub fn row(self) -> Option<u8>
+        ensures { result ≡ named_row self }
+    {
+        match self {
+            Fault::Row { row, .. } => Some(row),
+            _ => None,
+        }
+    }
+}
+
+// The refusal's number.
+impl From<Fault> for u32 {
+    ghost from_gives = { λ f n. n ≡ refusal_number f };
+
+    fn from(fault: Fault) -> u32 {
+        match fault {
             Fault::Length => 14,
             Fault::Number { .. } => 15,
             Fault::Kind { .. } => 16,
@@ -35,6 +62,8 @@ impl Fault {
         }
     }
 }
+
+impl Error for Fault {}
 
 impl fmt::Display for Fault {
     ghost output = { λ f. Some (fault_text f) };

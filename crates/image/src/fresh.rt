@@ -4,7 +4,7 @@ ghost use Rattle.image.specs.Blocks.{part, row_of};
 ghost use Rattle.image.specs.Faults.{whole_blocks, length_check};
 ghost use Rattle.image.specs.Sound.{BlockOf, Sound, Filled};
 
-use crate::block::close;
+use crate::block::{Block, Row, close, put_row};
 use crate::check::is_whole;
 use crate::fault::Fault;
 use values::kind::Kind;
@@ -23,19 +23,21 @@ pub fn new_image<K: Kind>(image: &mut [u8]) -> Result<(), Fault>
     Ok(())
 }
 
-fn new_blocks(image: &mut [u8], kind: u8, row: &[u8; 16])
+fn new_blocks(image: &mut [u8], kind: u8, row: &Row)
     requires { whole_blocks (length image.old) ≡ true }
     ensures { Filled kind row.now image.new }
 {
     let count = (image.len() / 512) as u8;
+    // Not by `as_chunks_mut` or `chunks_exact_mut`: the library does not say what these leave of the image.
     for q in 0..count {
-        let at = 512 * q as usize;
-        new_block(&mut image[at..at + 512], q, kind, row);
+        let (_, rest) = image.split_at_mut(512 * q as usize);
+        if let Some(block) = rest.first_chunk_mut() {
+            new_block(block, q, kind, row);
+        }
     }
 }
 
-fn new_block(block: &mut [u8], q: u8, kind: u8, row: &[u8; 16])
-    requires { length block.old ≡ 512 }
+fn new_block(block: &mut Block, q: u8, kind: u8, row: &Row)
     ensures { BlockOf kind (λ bytes. bytes ≡ row.now) q block.new }
 {
     write_header(block, q, kind);
@@ -43,20 +45,18 @@ fn new_block(block: &mut [u8], q: u8, kind: u8, row: &[u8; 16])
     close(block);
 }
 
-fn write_header(block: &mut [u8], q: u8, kind: u8)
-    requires { length block.old ≡ 512 }
+fn write_header(block: &mut Block, q: u8, kind: u8)
     ensures { part block.new 0 8 ≡ q ∷ 0 ∷ kind ∷ 0 ∷ 0 ∷ 0 ∷ 0 ∷ 0 ∷ [] }
 {
-    block[0..8].copy_from_slice(&[q, 0, kind, 0, 0, 0, 0, 0]);
+    block[..8].copy_from_slice(&[q, 0, kind, 0, 0, 0, 0, 0]);
 }
 
-fn fill_rows(block: &mut [u8], row: &[u8; 16])
-    requires { length block.old ≡ 512 }
+fn fill_rows(block: &mut Block, row: &Row)
     ensures header { (i : ℕ) → i < 8 → slice_index block.new i ≡ slice_index block.old i }
     ensures rows { (k : ℕ) → k < 31 → row_of block.new k ≡ row.now }
 {
+    // Not by `as_chunks_mut`: the library does not say what it leaves of the block.
     for k in 0..31usize {
-        let at = 8 + 16 * k;
-        block[at..at + 16].copy_from_slice(row);
+        put_row(block, k, row);
     }
 }

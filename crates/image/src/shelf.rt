@@ -27,14 +27,10 @@ impl<'a, K: Kind> Shelf<K> for BlockShelf<'a> {
     }
 
     fn read(&self, n: usize) -> Option<K::Value> {
-        if n < rows_in(self.image.len()) {
-            match K::unpack(get(self.image, n)) {
-                Ok(v) => Some(v),
-                Err(_) => Some(K::home()),
-            }
-        } else {
-            None
+        if n >= rows_in(self.image.len()) {
+            return None;
         }
+        Some(K::unpack(*get(self.image, n)).unwrap_or_else(|_| K::home()))
     }
 
     // The last clause is the block shelf's own: which bytes the image then has.
@@ -45,11 +41,10 @@ impl<'a, K: Kind> Shelf<K> for BlockShelf<'a> {
         ensures sound { Sound K.Kind.NUMBER K.Kind.unpacked self.old.image.now → Sound K.Kind.NUMBER K.Kind.unpacked self.new.image.now }
         ensures bytes { self.new.image.now ≡ image_written self.old.image.now n (K.Kind.packed v) }
     {
-        if n < rows_in(self.image.len()) {
-            put(self.image, n, &K::pack(v));
-            Ok(())
-        } else {
-            Err(PastCount)
+        if n >= rows_in(self.image.len()) {
+            return Err(PastCount);
         }
+        put(self.image, n, &K::pack(v));
+        Ok(())
     }
 }

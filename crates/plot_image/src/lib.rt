@@ -2,8 +2,8 @@
 
 #![tactic(auto)]
 
-ghost use Rattle.std.specs.Prelude.{◌≡◌, ◌<◌, Ok};
-ghost use Rattle.plot_image.specs.Host.{host_check, host_number, fault_block, fault_row, SoundOf};
+ghost use Rattle.std.specs.Prelude.{◌≡◌, Ok};
+ghost use Rattle.plot_image.specs.Host.{host_check, host_number, SoundOf};
 
 use image::check::{image_check, is_whole};
 use image::fault::Fault;
@@ -26,42 +26,17 @@ pub fn check_as(image: &[u8], kind: u32) -> Result<(), Fault>
     }
 }
 
-fn block_of(fault: Fault) -> u32
-    ensures value { result ≡ fault_block fault }
-    ensures small { result < 256 }
-{
-    match fault {
-        Fault::Length => 0,
-        Fault::Number { block } => u32::from(block),
-        Fault::Kind { block } => u32::from(block),
-        Fault::Mark { block } => u32::from(block),
-        Fault::Check { block } => u32::from(block),
-        Fault::Row { block, .. } => u32::from(block),
-    }
-}
-
-// The row's place in its block, where a row is the fault.
-fn row_of(fault: Fault) -> u32
-    ensures value { result ≡ fault_row fault }
-    ensures small { result < 256 }
-{
-    match fault {
-        Fault::Row { row, .. } => u32::from(row),
-        Fault::Length
-        | Fault::Number { .. }
-        | Fault::Kind { .. }
-        | Fault::Mark { .. }
-        | Fault::Check { .. } => 0,
-    }
-}
-
-// The fault as the one number that the host gets: refusal + 256 x block + 65,536 x row.
+// The fault as the one number that the host gets: refusal + 256 x block + 65,536 x row, with 0 where it names none.
 fn number_of(found: Result<(), Fault>) -> u32
     ensures { result ≡ host_number found }
 {
     match found {
         Ok(()) => 0,
-        Err(fault) => fault.number() + 256 * block_of(fault) + 65_536 * row_of(fault),
+        Err(fault) => {
+            let block = u32::from(fault.block().unwrap_or(0));
+            let row = u32::from(fault.row().unwrap_or(0));
+            u32::from(fault) + 256 * block + 65_536 * row
+        }
     }
 }
 

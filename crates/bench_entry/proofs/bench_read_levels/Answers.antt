@@ -1,5 +1,6 @@
 -- A turn reads one row; after the last all are read.
-use Rattle.std.proofs.Common.{refl, arith, rules}
+use Rattle.std.proofs.Common.{refl, ◌∙◌, arith, rules}
+use Rattle.std.proofs.lemmas.List.{set-get_or}
 use Rattle.values.specs.Levels.{level, level_unpacked}
 use Rattle.image.proofs.RowsWritten.{rows_long}
 use Rattle.bench_entry.specs.Rows.{levels_of}
@@ -18,7 +19,7 @@ loop-n-preserved c =
     let rows = levels_of c.args.image.now in let ns = c.args.numbers.now in let nums = c.loop-n.numbers in
     elim c.match-read.branch [
       | in-Some w ↦ got_row rows ns nums c.loop-n.n c.loop-n.got c.loop-n.invariant w.in-Some.level _ _ (search rules) (search rules) (search rules)
-      | in_default w ↦ past_rows rows ns nums c.loop-n.n c.loop-n.got c.loop-n.invariant _ _ (search rules) (search rules) (search rules)
+      | in_default w ↦ past_rows rows ns nums c.loop-n.n c.loop-n.got c.loop-n.invariant _ _ (search rules) (w.numbers-is ∙ set-get_or nums c.loop-n.n 0) (search rules)
     ]
 
 pub returns : goal.returns

@@ -1,8 +1,11 @@
-use Rattle.std.proofs.lemmas.Slice.Eq.{slice_eq-Decides}
-use Rattle.std.proofs.lemmas.List.{take_rest}
-use Rattle.image.proofs.FirstFault.{compared}
+use Rattle.std.proofs.Common.{◌≡◌, List, ℕ, take, drop, length-drop, take_all, ap, ◌∙◌, arith}
+use Rattle.std.specs.Str.{bytes_eq}
+use Rattle.image.specs.Blocks.{checks}
 use Rattle.image.proofs.check.check_fits.Goals as goal
-use Rattle.std.proofs.lemmas.Bool.Decides.{Decides-eqb}
 
 pub returns : goal.returns
-returns c = compared _ _ _ _ c.eq.result (slice_eq-Decides Decides-eqb _ _ _ c.eq.ensures) c.check_of-check.ensures (take_rest c.args.block.now 504)
+returns c =
+    let b = c.args.block.now in
+    let l = length-drop 504 b in
+    let rest : take 8 (drop 504 b) ≡ drop 504 b = take_all 8 (drop 504 b) (omega arith) in
+    c.eq.ensures ∙ ap (λ (t : List ℕ). bytes_eq t (take 8 (drop 504 b))) c.check_of.ensures ∙ ap (bytes_eq (checks b)) rest

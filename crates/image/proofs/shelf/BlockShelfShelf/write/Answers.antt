@@ -5,8 +5,8 @@ use Rattle.image.proofs.RowsWritten.{rows_below, rows_past, rows_written, rows_s
 use Rattle.image.proofs.Sound.{written_image_of}
 use Rattle.image.proofs.shelf.BlockShelfShelf.write.Goals as goal
 
-pub returns-then-n-rows_in : goal.returns-then-n-rows_in
-returns-then-n-rows_in g c =
+pub returns : goal.returns
+returns g c =
     let home = g.K.Kind.home in let unpacked = g.K.Kind.unpacked in
     let image = c.args.self.now.image.now in let n = c.args.n in let v = c.args.v in
     let h : n < row_count (length image) = search rules in
@@ -21,8 +21,8 @@ returns-then-n-rows_in g c =
       sound = λ s. subst (Sound g.K.Kind.NUMBER unpacked) (sym put) (written_image_of g.K.Kind.NUMBER (λ b. is_ok (unpacked b) ≡ _) image n (g.K.Kind.packed v) h size (ap is_ok back) s);
     }
 
-pub returns-else-n-rows_in : goal.returns-else-n-rows_in
-returns-else-n-rows_in g c =
+pub returns-then-n-rows_in : goal.returns-then-n-rows_in
+returns-then-n-rows_in g c =
     let home = g.K.Kind.home in let unpacked = g.K.Kind.unpacked in
     let image = c.args.self.now.image.now in let n = c.args.n in
     let h : row_count (length image) ≤ n = search rules in
