@@ -1,89 +1,51 @@
 -- Commit, in the view.
-use Rattle.std.proofs.Common.{◌≡◌, ℕ, zero, suc, ◌+◌, ◌<◌, ◌≤◌, Bool, true, false, cond, not, eqb, List, length, get_or, Some, None, Option, sym, refl, ap, ◌∙◌, subst, ⊎_elim, add-one, arith, length-set, get_or-set_other, get_or-set_same, leb-false}
+use Rattle.std.proofs.Common.{◌≡◌, ℕ, zero, suc, ◌+◌, ◌<◌, ◌≤◌, Bool, true, false, cond, not, eqb, List, length, get_or, Some, None, sym, refl, ap, ◌∙◌, subst, ⊎_elim, add-one, arith, length-set, leb-false}
 use mathlib.Core.Path.{fun_ext}
-use Rattle.std.proofs.lemmas.Bool.{cases_lt, eqb-true, eqb-false}
-use Rattle.std.proofs.lemmas.Option.{slice_get-get_or}
-use Rattle.rules.specs.declared.Mode.{Mode}
-use Rattle.rules.specs.declared.Mode.TheVariants.{Shared, Exclusive}
+use Rattle.std.proofs.lemmas.Bool.Decides.{nat_tests}
+use Rattle.std.proofs.lemmas.Grind.{common_steps}
+use Rattle.std.proofs.lemmas.Bool.{cases_lt, eqb-false}
 use Rattle.rules.specs.declared.Call.TheVariants.{Commit}
+use Rattle.rules.specs.declared.Answer.TheVariants.{Committed}
 use Rattle.rules.specs.Tables as rules
 use Rattle.rules.specs.Tables.{hold_on, draft_in}
-use Rattle.rules.specs.Operations.{or_else, seen, draft_for, bonds, behind_bond, settle}
-use Rattle.rules.specs.Calls.{refusals, first_refusal, after}
+use Rattle.rules.specs.Operations.{seen, bonds, behind_bond, settle}
+use Rattle.rules.specs.Calls.{refusals, first_refusal, step, after}
 use Rattle.rules.specs.Orderly.{Distinct, Orderly}
 use Rattle.rules.proofs.Admission.{all_tests_fail, commit_admitted}
 use Rattle.locks.specs.declared.station.Hold.{Hold}
 use Rattle.locks.specs.declared.station.Station.{Station}
 use Rattle.locks.specs.declared.table.LockTable.{LockTable}
-use Rattle.locks.specs.View.{bare, no_hold, hand_at, hold_with, hand_with, stations_with, awaited_at, active_at}
-use Rattle.locks.specs.Asked.{hold_at}
+use Rattle.locks.specs.View.{bare, no_hold, hold_with, hand_with, stations_with, awaited_at, active_at}
 use Rattle.locks.specs.Admission.{table_with, table_of, refused}
 use Rattle.locks.specs.Changes.{change, freed}
 use Rattle.locks.proofs.Drafts.{commit_same, bonds_same, behind_bond_same}
 use Rattle.locks.proofs.ChangedViews.{freed_view}
-use Rattle.engine.specs.View.{fits, records_of, drafts_of, show_of, table_from, put_draft, with_draft, with_drafts}
-use Rattle.engine.specs.Promoting.{Served}
-use Rattle.engine.proofs.Steps.{table_of_all}
+use Rattle.engine.specs.View.{records_of, drafts_of, show_of, table_from, with_drafts, hand_of, held_of}
+use Rattle.engine.specs.Promoting.{RowsFor}
+use Rattle.engine.proofs.Steps.{table_of_all, accepted_naming}
 use Rattle.engine.proofs.Grants.{waits_before}
 use Rattle.engine.proofs.GivesUp.{freed_waits_not, orderly_served}
 
--- one more draft written
-pub one_draft_more : {V : Type 0} (drafts : ℕ → V) (x : Station) (n : ℕ) (rows these those : List V) → n < length x.hand.items → these ≡ with_drafts drafts x.hand.items n rows
-    → those ≡ with_draft (hold_at x n) (drafts n) these → those ≡ with_drafts drafts x.hand.items (n + 1) rows
-one_draft_more drafts x n rows these those low e f =
-    f ∙ ap (λ (o : Option Hold). with_draft o (drafts n) these) (slice_get-get_or x.hand.items n no_hold low)
-    ∙ ap (with_draft (Some (get_or x.hand.items n no_hold)) (drafts n)) e ∙ ap (λ (k : ℕ). with_drafts drafts x.hand.items k rows) (sym (add-one n))
-
 module _ {V : Type 0} (home : V) (drafts : ℕ → V) (hand : List Hold) (rows : List V) where
-  -- writing a draft keeps the count
-  put_length : (o : Option V) (r : ℕ) (l : List V) → length (put_draft o r l) ≡ length l
-  put_length None r l = refl
-  put_length (Some v) r l = length-set l r v
-
   -- writing drafts keeps the count
-  pub drafts_length : (n : ℕ) → length (with_drafts drafts hand n rows) ≡ length rows
+  drafts_length : (n : ℕ) → length (with_drafts drafts hand n rows) ≡ length rows
   drafts_length zero = refl
-  drafts_length (suc n) = put_length (draft_for (get_or hand n no_hold).mode (drafts n)) (get_or hand n no_hold).at (with_drafts drafts hand n rows) ∙ drafts_length n
-
-  -- a draft written at its record is seen there
-  written_here : (m : Mode) (v : V) (r : ℕ) (l : List V) (w : V) → r < length l → get_or l r home ≡ w
-      → get_or (put_draft (draft_for m v) r l) r home ≡ or_else (draft_for m v) w
-  written_here Shared v r l w low e = e
-  written_here Exclusive v r l w low e = get_or-set_same l r v home low
-
-  -- and nowhere else
-  written_there : (m : Mode) (v : V) (q r : ℕ) (l : List V) → (r ≡ q → ⊥) → get_or (put_draft (draft_for m v) q l) r home ≡ get_or l r home
-  written_there Shared v q r l ne = refl
-  written_there Exclusive v q r l ne = get_or-set_other l q r v home ne
+  drafts_length (suc n) = grind (arith, length-set, drafts_length n)
 
   -- the rows with the drafts of distinct records written are what the holder of the hand sees
-  pub drafts_seen : (n : ℕ) → Distinct (hand_with drafts hand n) → ((k : ℕ) → k < n → (get_or hand k no_hold).at < length rows)
+  drafts_seen : (n : ℕ) → Distinct (hand_with drafts hand n) → ((k : ℕ) → k < n → (get_or hand k no_hold).at < length rows)
       → (r : ℕ) → show_of home (with_drafts drafts hand n rows) r ≡ seen (hand_with drafts hand n) (show_of home rows) r
   drafts_seen zero d inside r = refl
-  drafts_seen (suc n) d inside r = go (eqb q r) refl (drafts_seen n d.1 (λ k l. inside k (omega arith)) r)
+  drafts_seen (suc n) d inside r =
+      one_more n r d.0 (drafts_length n) (inside n (omega arith)) (drafts_seen n d.1 (λ k l. inside k (omega arith)) r)
     where
-      q : ℕ
-      q = (get_or hand n no_hold).at
-
-      m : Mode
-      m = (get_or hand n no_hold).mode
-
-      l : List V
-      l = with_drafts drafts hand n rows
-
-      go : (b : Bool) → eqb q r ≡ b → get_or l r home ≡ or_else (draft_in (hold_on r (hand_with drafts hand n))) (get_or rows r home)
-          → get_or (put_draft (draft_for m (drafts n)) q l) r home
-          ≡ or_else (draft_in (cond b (Some (hold_with (drafts n) (get_or hand n no_hold))) (hold_on r (hand_with drafts hand n)))) (get_or rows r home)
-      go true e ih =
-          let same : q ≡ r = eqb-true q r e in
-          let long = drafts_length n in let low = inside n (omega arith) in
-          let lacks : hold_on r (hand_with drafts hand n) ≡ None = ap (λ (k : ℕ). hold_on k (hand_with drafts hand n)) (sym same) ∙ d.0 in
-          ap (λ (k : ℕ). get_or (put_draft (draft_for m (drafts n)) k l) r home) same
-          ∙ written_here m (drafts n) r l (get_or rows r home) (omega (arith, long, low, same)) (ih ∙ ap (λ (o : Option (rules.Hold V)). or_else (draft_in o) (get_or rows r home)) lacks)
-      go false e ih = written_there m (drafts n) q r l (λ (same : r ≡ q). eqb-false q r e (sym same)) ∙ ih
+      one_more : (n r : ℕ) → hold_on (get_or hand n no_hold).at (hand_with drafts hand n) ≡ None → length (with_drafts drafts hand n rows) ≡ length rows → (get_or hand n no_hold).at < length rows
+          → show_of home (with_drafts drafts hand n rows) r ≡ seen (hand_with drafts hand n) (show_of home rows) r
+          → show_of home (with_drafts drafts hand (suc n) rows) r ≡ seen (hand_with drafts hand (suc n)) (show_of home rows) r
+      one_more n r d long low ih = grind (arith, nat_tests, common_steps)
 
 -- each of the first n holds is held
-pub held_somewhere : {V : Type 0} (drafts : ℕ → V) (hand : List Hold) (n k : ℕ) → k < n → (h : rules.Hold V) × (hold_on (get_or hand k no_hold).at (hand_with drafts hand n) ≡ Some h)
+held_somewhere : {V : Type 0} (drafts : ℕ → V) (hand : List Hold) (n k : ℕ) → k < n → (h : rules.Hold V) × (hold_on (get_or hand k no_hold).at (hand_with drafts hand n) ≡ Some h)
 held_somewhere drafts hand zero k l = absurd (omega arith)
 held_somewhere {V} drafts hand (suc n) k l = go (eqb (get_or hand n no_hold).at (get_or hand k no_hold).at) refl (held_somewhere drafts hand n k)
   where
@@ -98,11 +60,7 @@ held_somewhere {V} drafts hand (suc n) k l = go (eqb (get_or hand n no_hold).at 
 
 -- a record of the show has a row
 records_within : (show drafts r : ℕ) → r < records_of show drafts → r < show
-records_within show drafts r h = go (fits show drafts) h
-  where
-    go : (b : Bool) → r < cond b show 0 → r < show
-    go true low = low
-    go false low = absurd (omega arith)
+records_within show drafts r h = grind (arith, nat_tests)
 
 -- a commit is refused in the view as in the lock table
 pub commit_refusal : {V : Type 0} (C : Type 0) (drafts : ℕ → ℕ → V) (show : ℕ → V) (t : LockTable) (s records named : ℕ)
@@ -121,28 +79,28 @@ may_name drafts xs s named fence bound =
 
 module _ {V C : Type 0} (apply : V → C → V) (home : V) (show plotted drafts rows : List V) (t u w : LockTable) (s i number named : ℕ)
     (orderly : Orderly (table_from home show drafts t)) (none : refused named (Commit s) t 0 ≡ None) (at_s : i ≡ s)
-    (writes : plotted ≡ with_drafts (drafts_of home drafts i) (hand_at t.stations i) (length (hand_at t.stations i)) show)
+    (writes : plotted ≡ with_drafts (drafts_of home drafts i) (hand_of t i) (held_of t i) show)
     (frees : u.stations ≡ change freed i t.stations) (counts : u.commits ≡ cond (active_at t.stations i) (t.commits + 1) t.commits) (tells : number ≡ u.commits)
-    (settles : Served u.stations drafts → stations_with (drafts_of home rows) w.stations ≡ settle (show_of home plotted) (stations_with (drafts_of home drafts) u.stations))
+    (settles : RowsFor u.stations drafts → stations_with (drafts_of home rows) w.stations ≡ settle (show_of home plotted) (stations_with (drafts_of home drafts) u.stations))
     (long : length rows ≡ length drafts) (next : w.next ≡ t.next) (commits : w.commits ≡ u.commits) where
   -- the commit is not refused in the view
-  pub commit_accepted : first_refusal (refusals {C = C} named (Commit s) (table_from home show drafts t)) ≡ None
+  commit_accepted : first_refusal (refusals {C = C} named (Commit s) (table_from home show drafts t)) ≡ None
   commit_accepted = commit_refusal C (drafts_of home drafts) (show_of home show) t s (records_of (length show) (length drafts)) named ∙ none
 
   -- the rows written, of the station named
-  writes_own : plotted ≡ with_drafts (drafts_of home drafts s) (hand_at t.stations s) (length (hand_at t.stations s)) show
-  writes_own = writes ∙ ap (λ (j : ℕ). with_drafts (drafts_of home drafts j) (hand_at t.stations j) (length (hand_at t.stations j)) show) at_s
+  writes_own : plotted ≡ with_drafts (drafts_of home drafts s) (hand_of t s) (held_of t s) show
+  writes_own = writes ∙ ap (λ (j : ℕ). with_drafts (drafts_of home drafts j) (hand_of t j) (held_of t j) show) at_s
 
   -- the show has what the station sees
   plotted_seen : show_of home plotted ≡ seen (stations_with (drafts_of home drafts) t.stations s).hand (show_of home show)
   plotted_seen =
-      let hand = hand_at t.stations s in let held = length (hand_at t.stations s) in
+      let hand = hand_of t s in let held = held_of t s in
       ap (show_of home) writes_own
       ∙ fun_ext (drafts_seen home (drafts_of home drafts s) hand show held (orderly.distinct s)
       (λ k l. let h = held_somewhere (drafts_of home drafts s) hand held k l in records_within (length show) (length drafts) (get_or hand k no_hold).at (orderly.held_inside s (get_or hand k no_hold).at h.0 h.1)))
 
   -- the attempt is counted
-  pub committed_number : u.commits ≡ suc t.commits
+  committed_number : u.commits ≡ suc t.commits
   committed_number =
       let ok = commit_admitted C named (table_from home show drafts t) s commit_accepted in
       let acts : active_at t.stations i ≡ true = ap (active_at t.stations) at_s ∙ ap (λ (p : rules.Phase). not (rules.is_idle p)) ok.0 in
@@ -159,7 +117,11 @@ module _ {V C : Type 0} (apply : V → C → V) (home : V) (show plotted drafts 
       ∙ ap (settle (seen (stations_with (drafts_of home drafts) t.stations s).hand (show_of home show))) (ap (stations_with (drafts_of home drafts)) freeing ∙ freed_view (drafts_of home drafts) t.stations s (omega arith))
 
   -- and so is the table
-  pub committed_table : table_from home plotted rows w ≡ after apply (Commit s) (table_from home show drafts t)
+  committed_table : table_from home plotted rows w ≡ after apply (Commit s) (table_from home show drafts t)
   committed_table =
       table_of_all committed_stations next (commits ∙ committed_number) plotted_seen
-      (ap (λ (n : ℕ). records_of n (length rows)) (ap length writes_own ∙ drafts_length home (drafts_of home drafts s) (hand_at t.stations s) show (length (hand_at t.stations s))) ∙ ap (records_of (length show)) long)
+      (ap (λ (n : ℕ). records_of n (length rows)) (ap length writes_own ∙ drafts_length home (drafts_of home drafts s) (hand_of t s) show (held_of t s)) ∙ ap (records_of (length show)) long)
+
+  -- so the commit goes as the rules say
+  pub committed_step : (Committed number, table_from home plotted rows w) ≡ step apply named (Commit s) (table_from home show drafts t)
+  committed_step = accepted_naming apply (Commit s) (table_from home show drafts t) named _ _ commit_accepted (ap Committed (tells ∙ committed_number)) committed_table

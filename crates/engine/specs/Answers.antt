@@ -1,13 +1,16 @@
 -- What a call of the engine promises: its answer and the table after it are what the rules give, and the shelves stay themselves.
-use Rattle.std.specs.Prelude.{◌≡◌, ℕ, List, length, Ok, Err, Result}
+use Rattle.std.specs.Prelude.{◌≡◌, ℕ, length, Ok, Err, Result}
 use Rattle.rules.specs.declared.Refusal.{Refusal}
 use Rattle.rules.specs.declared.Outcome.{Outcome}
 use Rattle.rules.specs.declared.Call.{Call}
 use Rattle.rules.specs.declared.Answer.{Answer}
 use Rattle.rules.specs.declared.Answer.TheVariants.{Refused, Taken}
-use Rattle.rules.specs.Tables.{Table}
 use Rattle.rules.specs.Naming.{MayName}
 use Rattle.rules.specs.Calls.{step}
+use Rattle.values.specs.declared.kind.Kind.{Ghosts as KindMembers}
+use Rattle.shelves.specs.declared.shelf.Shelf.{Ghosts as ShelfMembers}
+use Rattle.engine.specs.declared.Engine.{Engine}
+use Rattle.engine.specs.View.{view}
 
 -- an answer of a call, as the rules have it
 abbrev pub as_answer : {V X : Type 0} → (X → Answer V) → Result X Refusal → Answer V
@@ -18,16 +21,18 @@ as_answer f (Err why) = Refused why
 abbrev pub taken : {V : Type 0} → Outcome × ℕ → Answer V
 taken p = Taken p.0 p.1
 
--- the rules' step, with the station named that a call other than commit does not name
-abbrev pub Ruled : {V C : Type 0} → (V → C → V) → Call C → Table V → Answer V → Table V → Type 0
-Ruled apply c before answer after = (answer, after) ≡ step apply 0 c before
+module _ {K S D V C N : Type 0} where
+  -- the rules' step from the engine before to the one after, with the station named that a call other than commit does not name
+  abbrev pub Ruled : KindMembers K V C N → ShelfMembers S K V C N → ShelfMembers D K V C N → Call C → Engine K S D V C N → Answer V → Engine K S D V C N → Type 0
+  Ruled kind show drafts c before answer after = (answer, view kind show drafts after) ≡ step kind.applied 0 c (view kind show drafts before)
 
--- the rules' step, with a station named that the call may name: which one is a free choice
-abbrev pub RuledNaming : {V C : Type 0} → (V → C → V) → Call C → Table V → Answer V → Table V → Type 0
-RuledNaming apply c before answer after = (named : ℕ) × MayName c before named × ((answer, after) ≡ step apply named c before)
+  -- the rules' step, with a station named that the call may name: which one is a free choice
+  abbrev pub RuledNaming : KindMembers K V C N → ShelfMembers S K V C N → ShelfMembers D K V C N → Call C → Engine K S D V C N → Answer V → Engine K S D V C N → Type 0
+  RuledNaming kind show drafts c before answer after =
+      (named : ℕ) × MayName c (view kind show drafts before) named × ((answer, view kind show drafts after) ≡ step kind.applied named c (view kind show drafts before))
 
 -- what every call keeps of a shelf: its count, the lent memory that it lies in, and what else held of that memory
-pub record Kept {S V : Type 0} (rows : S → List V) (memory : S → List ℕ) (sound : S → Type 0) (before after : S) : Type 0 where
-  pub same_count : length (rows after) ≡ length (rows before)
-  pub same_memory : memory after ≡ memory before
-  pub stays_sound : sound before → sound after
+pub record Kept {S K V C N : Type 0} (shelf : ShelfMembers S K V C N) (before after : S) : Type 0 where
+  pub same_count : length (shelf.rows after) ≡ length (shelf.rows before)
+  pub same_memory : shelf.memory after ≡ shelf.memory before
+  pub stays_sound : shelf.sound before → shelf.sound after

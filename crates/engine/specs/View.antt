@@ -1,13 +1,17 @@
 -- How an engine reads as a table of the rules.
-use Rattle.std.specs.Prelude.{◌≡◌, ℕ, zero, suc, ◌+◌, ◌*◌, Bool, cond, ◌&&◌, List, length, Some, None, Option, ◌==◌, nat_le, nat_lt, slice_index_or, slice_set}
+use Rattle.std.specs.Prelude.{◌≡◌, ℕ, zero, suc, ◌+◌, ◌*◌, Bool, cond, ◌&&◌, List, length, Some, None, Option, Ok, Err, Result, ◌==◌, nat_le, nat_lt, slice_index_or, slice_set}
 use Rattle.rules.specs.Tables.{Stations, Table}
-use Rattle.rules.specs.Operations.{draft_for}
+use Rattle.rules.specs.Operations.{before, draft_for}
+use Rattle.rules.specs.Calls.{opened}
 use Rattle.locks.specs.declared.station.Hold.{Hold}
-use Rattle.locks.specs.View.{no_hold, no_station, stations_with}
+use Rattle.locks.specs.View.{no_hold, no_station, hand_at, stations_with}
 use Rattle.locks.specs.Asked.{hold_at}
 use Rattle.locks.specs.declared.table.LockTable.{LockTable}
 use Rattle.locks.specs.Admission.{table_with}
+use Rattle.values.specs.declared.kind.Kind.{Ghosts as KindMembers}
+use Rattle.shelves.specs.declared.shelf.Shelf.{Ghosts as ShelfMembers}
 use Rattle.engine.specs.declared.Engine.{Engine}
+use Rattle.engine.specs.declared.fitting.Unfit.{Unfit}
 
 -- the show has 1 to 1,984 records and the drafts 256 rows
 abbrev pub fits : ℕ → ℕ → Bool
@@ -15,6 +19,10 @@ fits show drafts = nat_le 1 show && nat_le show 1984 && drafts == 256
 
 abbrev pub fit_number : ℕ → ℕ → ℕ
 fit_number show drafts = cond (fits show drafts) 0 20
+
+-- whether they fit
+abbrev pub fit_answer : ℕ → ℕ → Result (Unit {0}) Unfit
+fit_answer show drafts = cond (fits show drafts) (Ok tt) (Err (record {}))
 
 -- shelves that do not fit have no records
 abbrev pub records_of : ℕ → ℕ → ℕ
@@ -49,21 +57,54 @@ module _ {V : Type 0} (home : V) where
   abbrev pub drafts_of : List V → ℕ → ℕ → V
   drafts_of rows i k = cond (nat_lt k 16) (slice_index_or rows (16 * i + k) home) home
 
-  -- the draft of the hold at place k of station s, if it is exclusive
-  abbrev pub own_draft : List V → LockTable → ℕ → ℕ → Option V
-  own_draft rows locks s k = draft_of_hold (hold_at (slice_index_or locks.stations s no_station) k) (drafts_of rows s k)
-
-  -- the stations of an engine, with their drafts
-  abbrev pub stations_of : {K S D X Y Z : Type 0} → (D → List V) → Engine K S D X Y Z → Stations V
-  stations_of drafts e = stations_with (drafts_of (drafts e.drafts)) e.locks.stations
-
   -- the table of two lists of rows and a lock table
   abbrev pub table_from : List V → List V → LockTable → Table V
   table_from show drafts locks = table_with (drafts_of drafts) (show_of show) locks (records_of (length show) (length drafts))
 
-  -- the table of an engine
-  abbrev pub view : {K S D X Y Z : Type 0} → (S → List V) → (D → List V) → Engine K S D X Y Z → Table V
-  view show drafts e = table_from (show e.show) (drafts e.drafts) e.locks
+-- the hand of station s, and how many holds it has
+abbrev pub hand_of : LockTable → ℕ → List Hold
+hand_of locks s = hand_at locks.stations s
+
+abbrev pub held_of : LockTable → ℕ → ℕ
+held_of locks s = length (hand_of locks s)
+
+-- the hold at place k of station s, if the place is in use
+abbrev pub own_hold : LockTable → ℕ → ℕ → Option Hold
+own_hold locks s k = hold_at (slice_index_or locks.stations s no_station) k
+
+-- the rows with the drafts of station s put at the records of its exclusive holds
+abbrev pub with_own_drafts : {V : Type 0} → (ℕ → V) → LockTable → ℕ → List V → List V
+with_own_drafts drafts locks s rows = with_drafts drafts (hand_of locks s) (held_of locks s) rows
+
+-- An engine over a kind and two shelves, by what the kind and the shelves say of themselves.
+module _ {K S D V C N : Type 0} where
+  -- the plotted values
+  abbrev pub shown : KindMembers K V C N → ShelfMembers S K V C N → Engine K S D V C N → ℕ → V
+  shown kind show e = show_of kind.home (show.rows e.show)
+
+  -- the drafts, by station and place
+  abbrev pub drafted : KindMembers K V C N → ShelfMembers D K V C N → Engine K S D V C N → ℕ → ℕ → V
+  drafted kind drafts e = drafts_of kind.home (drafts.rows e.drafts)
+
+  -- the draft of the hold at place k of station s, if it is exclusive
+  abbrev pub own_draft : KindMembers K V C N → ShelfMembers D K V C N → Engine K S D V C N → ℕ → ℕ → Option V
+  own_draft kind drafts e s k = draft_of_hold (own_hold e.locks s k) (drafted kind drafts e s k)
+
+  -- the stations, with their drafts
+  abbrev pub stations_of : KindMembers K V C N → ShelfMembers D K V C N → Engine K S D V C N → Stations V
+  stations_of kind drafts e = stations_with (drafted kind drafts e) e.locks.stations
+
+  -- the table of the rules that an engine is
+  abbrev pub view : KindMembers K V C N → ShelfMembers S K V C N → ShelfMembers D K V C N → Engine K S D V C N → Table V
+  view kind show drafts e = table_from kind.home (show.rows e.show) (drafts.rows e.drafts) e.locks
+
+  -- the table of a new engine on two shelves, with its first stamp
+  abbrev pub opened_on : KindMembers K V C N → ShelfMembers S K V C N → ShelfMembers D K V C N → S → D → ℕ → Table V
+  opened_on kind show drafts s d first = opened first (show_of kind.home (show.rows s)) (records_of (length (show.rows s)) (length (drafts.rows d)))
+
+  -- what stands before station s at record r
+  abbrev pub stands_before : KindMembers K V C N → ShelfMembers S K V C N → ShelfMembers D K V C N → Engine K S D V C N → ℕ → ℕ → V
+  stands_before kind show drafts e s r = before (stations_of kind drafts e) (shown kind show e) s r
 
 -- two tables agree in every field, and in every station and plotted value
 pub record SameTable {V : Type 0} (t u : Table V) : Type 0 where

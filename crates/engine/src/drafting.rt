@@ -2,12 +2,12 @@
 ghost use Rattle.std.specs.Prelude.{◌≡◌, ◌<◌, false, is_ok};
 ghost use Rattle.rules.specs.declared.Answer.TheVariants.{Value};
 ghost use Rattle.rules.specs.declared.Call.TheVariants.{Look, Change};
-ghost use Rattle.rules.specs.Operations.{before, or_else};
-ghost use Rattle.locks.specs.View.{stations_with};
-ghost use Rattle.engine.specs.View.{view, show_of, drafts_of, own_draft};
+ghost use Rattle.rules.specs.Operations.{or_else};
+ghost use Rattle.engine.specs.View.{own_draft, stands_before};
 ghost use Rattle.engine.specs.Answers.{as_answer, Ruled, Kept};
 
 use crate::Engine;
+use crate::fitting::draft_row;
 use rules::{Mode, Refusal};
 use shelves::shelf::Shelf;
 use values::kind::Kind;
@@ -15,31 +15,27 @@ use values::kind::Kind;
 impl<K: Kind, S: Shelf<K>, D: Shelf<K>> Engine<K, S, D> {
     // What stands before station s at a record.
     pub(crate) fn standing_before(&self, s: usize, at: u32) -> K::Value
-        ensures { result ≡ before (stations_with (drafts_of K.Kind.home (D.Shelf.rows self.now.drafts)) self.now.locks.stations) (show_of K.Kind.home (S.Shelf.rows self.now.show)) s at }
+        ensures { result ≡ stands_before K.Kind S.Shelf D.Shelf self.now s at }
     {
-        match self.locks.before(s, at) {
-            Some((j, k)) => self.draft_at(j, k),
-            None => self.value_at(at),
-        }
+        self.locks
+            .before(s, at)
+            .map_or_else(|| self.value_at(at), |(j, k)| self.draft_at(j, k))
     }
 
     // What station s sees at a record that it holds at place k: its own draft, or what stands before it.
     fn value_seen(&self, s: usize, k: usize, at: u32) -> K::Value
         requires { (s < 16) × (k < 16) }
-        ensures { result ≡ or_else (own_draft K.Kind.home (D.Shelf.rows self.now.drafts) self.now.locks s k) (before (stations_with (drafts_of K.Kind.home (D.Shelf.rows self.now.drafts)) self.now.locks.stations) (show_of K.Kind.home (S.Shelf.rows self.now.show)) s at) }
+        ensures { result ≡ or_else (own_draft K.Kind D.Shelf self.now s k) (stands_before K.Kind S.Shelf D.Shelf self.now s at) }
     {
-        let Some(hold) = self.locks.hold(s, k) else {
-            return self.standing_before(s, at);
-        };
-        match hold.mode {
-            Mode::Shared => self.standing_before(s, at),
-            Mode::Exclusive => self.draft_at(s, k),
+        match self.locks.hold(s, k) {
+            Some(hold) if hold.mode == Mode::Exclusive => self.draft_at(s, k),
+            _ => self.standing_before(s, at),
         }
     }
 
     // The draft of an exclusive hold, or what stands before a shared one.
     pub fn look(&self, station: u32, at: u32) -> Result<K::Value, Refusal>
-        ensures { Ruled K.Kind.applied (Look station at) (view K.Kind.home S.Shelf.rows D.Shelf.rows self.now) (as_answer Value result) (view K.Kind.home S.Shelf.rows D.Shelf.rows self.now) }
+        ensures { Ruled K.Kind S.Shelf D.Shelf (Look station at) self.now (as_answer Value result) self.now }
     {
         let records = self.records();
         let (s, k) = self.locks.admit_hold(station, at, records)?;
@@ -48,15 +44,15 @@ impl<K: Kind, S: Shelf<K>, D: Shelf<K>> Engine<K, S, D> {
 
     // Applies a change to the draft of an exclusive hold, and answers the new draft.
     pub fn change(&mut self, station: u32, at: u32, by: K::Change) -> Result<K::Value, Refusal>
-        ensures ruled { Ruled K.Kind.applied (Change station at by) (view K.Kind.home S.Shelf.rows D.Shelf.rows self.old) (as_answer Value result) (view K.Kind.home S.Shelf.rows D.Shelf.rows self.new) }
+        ensures ruled { Ruled K.Kind S.Shelf D.Shelf (Change station at by) self.old (as_answer Value result) self.new }
         ensures refused { is_ok result ≡ false → self.new ≡ self.old }
         ensures show { self.new.show ≡ self.old.show }
-        ensures drafts { Kept D.Shelf.rows D.Shelf.memory D.Shelf.sound self.old.drafts self.new.drafts }
+        ensures drafts { Kept D.Shelf self.old.drafts self.new.drafts }
     {
         let records = self.records();
         let (s, k) = self.locks.admit_change(station, at, records)?;
         let new = K::apply(self.draft_at(s, k), by);
-        let _ = self.drafts.write(16 * s + k, new);
+        let _ = self.drafts.write(draft_row(s, k), new);
         Ok(new)
     }
 }

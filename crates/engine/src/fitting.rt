@@ -1,30 +1,70 @@
 // Whether two shelves fit an engine, and opening it.
-ghost use Rattle.std.specs.Prelude.{◌≡◌, ◌<◌, length};
-ghost use Rattle.rules.specs.Calls.{opened};
-ghost use Rattle.engine.specs.View.{fit_number, records_of, show_of, drafts_of, view, SameTable};
+ghost use Rattle.std.specs.Prelude.{◌≡◌, ◌+◌, ◌*◌, ◌<◌};
+ghost use Rattle.engine.specs.View.{fit_number, fit_answer, opened_on, shown, drafted, view, SameTable};
 
 use crate::Engine;
 use locks::table::LockTable;
 use shelves::shelf::Shelf;
+use std::error::Error;
+use std::fmt;
 use std::marker::PhantomData;
 use values::kind::Kind;
 
-// 0, or 20 where a count is wrong.
+// The refusal of two shelves that do not fit an engine.
+#[derive(Clone, Copy, PartialEq, Debug)]
+pub struct Unfit;
+
+impl Unfit {
+    // Its number.
+    pub fn number(self) -> u32
+        ensures { result ≡ 20 }
+    {
+        20
+    }
+}
+
+impl fmt::Display for Unfit {
+    fn fmt<W: fmt::Write>(&self, f: &mut fmt::Formatter<W>) -> fmt::Result {
+        write!(f, "the shelves do not fit")
+    }
+}
+
+impl Error for Unfit {}
+
+// Whether a show and drafts of these counts fit.
+pub fn check_fit(show: usize, drafts: usize) -> Result<(), Unfit>
+    ensures { result ≡ fit_answer show drafts }
+{
+    if (1..=1984).contains(&show) && drafts == 256 {
+        Ok(())
+    } else {
+        Err(Unfit)
+    }
+}
+
+// The same as a number: 0, or 20 where a count is wrong.
 pub fn fit(show: usize, drafts: usize) -> u32
     ensures { result ≡ fit_number show drafts }
 {
-    if (1 <= show) & (show <= 1984) & (drafts == 256) {
-        0
-    } else {
-        20
+    match check_fit(show, drafts) {
+        Ok(()) => 0,
+        Err(why) => why.number(),
     }
+}
+
+// The row of the drafts shelf for place k of station s.
+pub(crate) fn draft_row(s: usize, k: usize) -> usize
+    requires { (s < 16) × (k < 16) }
+    ensures { result ≡ 16 * s + k }
+{
+    16 * s + k
 }
 
 impl<K: Kind, S: Shelf<K>, D: Shelf<K>> Engine<K, S, D> {
     // A new engine: all stations idle. Shelves that do not fit have no records.
     pub fn open(show: S, drafts: D, first: u32) -> Engine<K, S, D>
-        ensures new { view K.Kind.home S.Shelf.rows D.Shelf.rows result ≡ opened first (show_of K.Kind.home (S.Shelf.rows show)) (records_of (length (S.Shelf.rows show)) (length (D.Shelf.rows drafts))) }
-        ensures same_table { SameTable (view K.Kind.home S.Shelf.rows D.Shelf.rows result) (opened first (show_of K.Kind.home (S.Shelf.rows show)) (records_of (length (S.Shelf.rows show)) (length (D.Shelf.rows drafts)))) }
+        ensures new { view K.Kind S.Shelf D.Shelf result ≡ opened_on K.Kind S.Shelf D.Shelf show drafts first }
+        ensures same_table { SameTable (view K.Kind S.Shelf D.Shelf result) (opened_on K.Kind S.Shelf D.Shelf show drafts first) }
         ensures show { result.show ≡ show }
         ensures drafts { result.drafts ≡ drafts }
     {
@@ -38,10 +78,10 @@ impl<K: Kind, S: Shelf<K>, D: Shelf<K>> Engine<K, S, D> {
 
     // How many records there are.
     pub(crate) fn records(&self) -> u32
-        ensures { result ≡ records_of (length (S.Shelf.rows self.now.show)) (length (D.Shelf.rows self.now.drafts)) }
+        ensures { result ≡ (view K.Kind S.Shelf D.Shelf self.now).records }
     {
         let count = self.show.count();
-        if fit(count, self.drafts.count()) == 0 {
+        if check_fit(count, self.drafts.count()).is_ok() {
             count as u32
         } else {
             0
@@ -50,22 +90,16 @@ impl<K: Kind, S: Shelf<K>, D: Shelf<K>> Engine<K, S, D> {
 
     // The plotted value of a record, home past the last.
     pub(crate) fn value_at(&self, at: u32) -> K::Value
-        ensures { result ≡ show_of K.Kind.home (S.Shelf.rows self.now.show) at }
+        ensures { result ≡ shown K.Kind S.Shelf self.now at }
     {
-        match self.show.read(at as usize) {
-            Some(v) => v,
-            None => K::home(),
-        }
+        self.show.read(at as usize).unwrap_or(K::home())
     }
 
     // The draft at a place of a station, home where there is none.
     pub(crate) fn draft_at(&self, s: usize, k: usize) -> K::Value
         requires { (s < 16) × (k < 16) }
-        ensures { result ≡ drafts_of K.Kind.home (D.Shelf.rows self.now.drafts) s k }
+        ensures { result ≡ drafted K.Kind D.Shelf self.now s k }
     {
-        match self.drafts.read(16 * s + k) {
-            Some(v) => v,
-            None => K::home(),
-        }
+        self.drafts.read(draft_row(s, k)).unwrap_or(K::home())
     }
 }

@@ -2,7 +2,6 @@
 ghost use Rattle.std.specs.Prelude.{◌≡◌, false, is_ok};
 ghost use Rattle.rules.specs.declared.Answer.TheVariants.{Number};
 ghost use Rattle.rules.specs.declared.Call.TheVariants.{Begin, Again};
-ghost use Rattle.engine.specs.View.{view};
 ghost use Rattle.engine.specs.Answers.{as_answer, Ruled};
 
 use crate::Engine;
@@ -13,7 +12,7 @@ use values::kind::Kind;
 impl<K: Kind, S: Shelf<K>, D: Shelf<K>> Engine<K, S, D> {
     // Starts an attempt under the next stamp, which it answers.
     pub fn begin(&mut self, station: u32) -> Result<u32, Refusal>
-        ensures ruled { Ruled K.Kind.applied (Begin station) (view K.Kind.home S.Shelf.rows D.Shelf.rows self.old) (as_answer Number result) (view K.Kind.home S.Shelf.rows D.Shelf.rows self.new) }
+        ensures ruled { Ruled K.Kind S.Shelf D.Shelf (Begin station) self.old (as_answer Number result) self.new }
         ensures refused { is_ok result ≡ false → self.new ≡ self.old }
         ensures show { self.new.show ≡ self.old.show }
         ensures drafts { self.new.drafts ≡ self.old.drafts }
@@ -24,7 +23,7 @@ impl<K: Kind, S: Shelf<K>, D: Shelf<K>> Engine<K, S, D> {
 
     // Starts the wounded attempt of a station again, under its stamp.
     pub fn again(&mut self, station: u32) -> Result<u32, Refusal>
-        ensures ruled { Ruled K.Kind.applied (Again station) (view K.Kind.home S.Shelf.rows D.Shelf.rows self.old) (as_answer Number result) (view K.Kind.home S.Shelf.rows D.Shelf.rows self.new) }
+        ensures ruled { Ruled K.Kind S.Shelf D.Shelf (Again station) self.old (as_answer Number result) self.new }
         ensures refused { is_ok result ≡ false → self.new ≡ self.old }
         ensures show { self.new.show ≡ self.old.show }
         ensures drafts { self.new.drafts ≡ self.old.drafts }

@@ -5,7 +5,6 @@ ghost use Rattle.rules.specs.declared.Answer.TheVariants.{Number};
 ghost use Rattle.rules.specs.declared.Call.TheVariants.{Take, Retire};
 ghost use Rattle.rules.specs.Tables.{is_waiting};
 ghost use Rattle.locks.specs.View.{bare};
-ghost use Rattle.engine.specs.View.{view};
 ghost use Rattle.engine.specs.Answers.{as_answer, taken, Ruled, Kept};
 
 use crate::Engine;
@@ -18,19 +17,20 @@ impl<K: Kind, S: Shelf<K>, D: Shelf<K>> Engine<K, S, D> {
     fn outcome(&self, s: usize) -> Outcome
         ensures { result ≡ (if is_waiting (bare self.now.locks.stations s).phase then Waits else Granted) }
     {
-        match self.locks.awaited(s) {
-            Some(_) => Outcome::Waits,
-            None => Outcome::Granted,
+        if self.locks.awaited(s).is_some() {
+            Outcome::Waits
+        } else {
+            Outcome::Granted
         }
     }
 
     // Wounds the younger holders whose mode conflicts and whoever rests on them, waits for the record, and settles. Answers what became
     // of the take, and how many attempts were wounded.
     pub fn take(&mut self, station: u32, at: u32, mode: Mode) -> Result<(Outcome, u32), Refusal>
-        ensures ruled { Ruled K.Kind.applied (Take station at mode) (view K.Kind.home S.Shelf.rows D.Shelf.rows self.old) (as_answer taken result) (view K.Kind.home S.Shelf.rows D.Shelf.rows self.new) }
+        ensures ruled { Ruled K.Kind S.Shelf D.Shelf (Take station at mode) self.old (as_answer taken result) self.new }
         ensures refused { is_ok result ≡ false → self.new ≡ self.old }
         ensures show { self.new.show ≡ self.old.show }
-        ensures drafts { Kept D.Shelf.rows D.Shelf.memory D.Shelf.sound self.old.drafts self.new.drafts }
+        ensures drafts { Kept D.Shelf self.old.drafts self.new.drafts }
     {
         let records = self.records();
         let s = self.locks.admit_take(station, at, records)?;
@@ -43,10 +43,10 @@ impl<K: Kind, S: Shelf<K>, D: Shelf<K>> Engine<K, S, D> {
 
     // Turns an owned hold to retired and settles. Answers how many waits were granted.
     pub fn retire(&mut self, station: u32, at: u32) -> Result<u32, Refusal>
-        ensures ruled { Ruled K.Kind.applied (Retire station at) (view K.Kind.home S.Shelf.rows D.Shelf.rows self.old) (as_answer Number result) (view K.Kind.home S.Shelf.rows D.Shelf.rows self.new) }
+        ensures ruled { Ruled K.Kind S.Shelf D.Shelf (Retire station at) self.old (as_answer Number result) self.new }
         ensures refused { is_ok result ≡ false → self.new ≡ self.old }
         ensures show { self.new.show ≡ self.old.show }
-        ensures drafts { Kept D.Shelf.rows D.Shelf.memory D.Shelf.sound self.old.drafts self.new.drafts }
+        ensures drafts { Kept D.Shelf self.old.drafts self.new.drafts }
     {
         let records = self.records();
         let (s, k) = self.locks.admit_hold(station, at, records)?;

@@ -11,7 +11,6 @@ use Rattle.rules.specs.Calls.{step, opened}
 use Rattle.rules.specs.Orderly.{Orderly}
 use Rattle.law.specs.Runs.{table, engine}
 use Rattle.law.proofs.Theorem.{lawful, always_orderly, show_left}
-use Rattle.engine.specs.Answers.{RuledNaming}
 use Rattle.runs.specs.declared.played.Played.{Played}
 use Rattle.runs.specs.LawfulRun.{call_of, onto, LawfulRun}
 use Rattle.runs.proofs.Histories.{no_entry, before, before_more, before_length, all_answered}
@@ -25,6 +24,10 @@ module _ {V C : Type 0} (apply : V → C → V) (first records : ℕ) (show : �
   -- every table of the run is orderly
   pub reached_orderly : (h : List (Call C)) → Orderly (reached h)
   reached_orderly h = always_orderly V C apply (λ _. 0) first records show h
+
+  -- a call was answered by the rules, with some station named that it may name
+  abbrev pub AnsweredBy : Call C → Table V → Answer V → Table V → Type 0
+  AnsweredBy c t a u = (named : ℕ) × MayName c t named × ((a, u) ≡ step apply named c t)
 
   -- entry k of the script was answered by the rules, with some station named that it may name
   abbrev pub AnsweredAt : List (Call C) → List (Played V C) → ℕ → Type 0
@@ -45,7 +48,7 @@ module _ {V C : Type 0} (apply : V → C → V) (first records : ℕ) (show : �
 
   -- one call more
   pub after_more : (script entries : List (Played V C)) (n : ℕ) (t u : Table V) (c : Call C) (a : Answer V) → After script entries n t → n < length script → c ≡ (get_or entries n no_entry).call
-      → (Orderly t → RuledNaming apply c t a u) → After script (set entries n (record { call = c; answer = Some a })) (n + 1) u
+      → (Orderly t → AnsweredBy c t a u) → After script (set entries n (record { call = c; answer = Some a })) (n + 1) u
   after_more script entries n t u c a done low this ruled =
       record {
         long = length-set entries n new ∙ done.long;
@@ -70,7 +73,7 @@ module _ {V C : Type 0} (apply : V → C → V) (first records : ℕ) (show : �
       this_call : c ≡ get_or calls n Count
       this_call = this ∙ ap (λ (p : Played V C). p.call) (done.ahead n (omega arith)) ∙ sym (get_or-map call_of script n no_entry Count low)
 
-      one : RuledNaming apply c t a u
+      one : AnsweredBy c t a u
       one = ruled (subst Orderly (sym done.table_now) (reached_orderly (before calls n)))
 
       here : (k : ℕ) → k ≡ n → AnsweredAt calls (set entries n new) k

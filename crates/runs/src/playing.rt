@@ -1,7 +1,6 @@
 // Playing a list of calls on a new engine.
-ghost use Rattle.std.specs.Prelude.{map, length};
-ghost use Rattle.rules.specs.Calls.{opened};
-ghost use Rattle.engine.specs.View.{show_of, records_of, view};
+ghost use Rattle.std.specs.Prelude.{map};
+ghost use Rattle.engine.specs.View.{opened_on, view};
 ghost use Rattle.engine.specs.Answers.{Kept};
 ghost use Rattle.runs.specs.LawfulRun.{call_of, LawfulRun};
 
@@ -18,18 +17,13 @@ pub fn play<K: Kind, S: Shelf<K>, D: Shelf<K>>(
     first: u32,
     script: &mut [Played<K::Value, K::Change>],
 ) -> Engine<K, S, D>
-    ensures lawful { LawfulRun K.Kind.applied (opened first (show_of K.Kind.home (S.Shelf.rows show)) (records_of (length (S.Shelf.rows show)) (length (D.Shelf.rows drafts)))) (map call_of script.old) script.new (view K.Kind.home S.Shelf.rows D.Shelf.rows result) }
-    ensures show { Kept S.Shelf.rows S.Shelf.memory S.Shelf.sound show result.show }
-    ensures drafts { Kept D.Shelf.rows D.Shelf.memory D.Shelf.sound drafts result.drafts }
+    ensures lawful { LawfulRun K.Kind.applied (opened_on K.Kind S.Shelf D.Shelf show drafts first) (map call_of script.old) script.new (view K.Kind S.Shelf D.Shelf result) }
+    ensures show { Kept S.Shelf show result.show }
+    ensures drafts { Kept D.Shelf drafts result.drafts }
 {
     let mut engine = Engine::open(show, drafts, first);
-    for i in 0..script.len() {
-        let call = script[i].call;
-        let answer = engine.answer(call);
-        script[i] = Played {
-            call,
-            answer: Some(answer),
-        };
+    for entry in script {
+        entry.answer = Some(engine.answer(entry.call));
     }
     engine
 }

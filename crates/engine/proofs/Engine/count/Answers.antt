@@ -7,5 +7,5 @@ use Rattle.engine.proofs.Engine.count.Goals as goal
 
 pub returns : goal.returns
 returns g c =
-    let t = view g.K.Kind.home g.S.Shelf.rows g.D.Shelf.rows c.args.self.now in
+    let t = view g.K.Kind g.S.Shelf g.D.Shelf c.args.self.now in
     accepted_step g.K.Kind.applied Count t _ t refl (ap Number c.records.ensures) refl

@@ -1,13 +1,9 @@
-use Rattle.std.proofs.Common.{◌+◌, ◌*◌, ◌∙◌}
-use Rattle.engine.proofs.RowsRead.{some_at, none_at, draft_row}
+use Rattle.std.proofs.Common.{◌+◌, ◌*◌, ap, ◌∙◌}
+use Rattle.std.specs.List.{slice_get}
+use Rattle.engine.proofs.RowsRead.{read_or, draft_row}
 use Rattle.engine.proofs.Engine.draft_at.Goals as goal
 
-pub returns-in-Some : goal.returns-in-Some
-returns-in-Some g c =
-    let rows = g.D.Shelf.rows c.args.self.now.drafts in
-    some_at rows (16 * c.args.s + c.args.k) c.in-Some.v g.K.Kind.home c.in-Some.ensures ∙ draft_row g.K.Kind.home rows c.args.s c.args.k c.requires.1
-
-pub returns-in-None : goal.returns-in-None
-returns-in-None g c =
-    let rows = g.D.Shelf.rows c.args.self.now.drafts in
-    c.home.ensures ∙ none_at rows (16 * c.args.s + c.args.k) g.K.Kind.home c.in-None.ensures ∙ draft_row g.K.Kind.home rows c.args.s c.args.k c.requires.1
+pub returns : goal.returns
+returns g c =
+    let home = g.K.Kind.home in let rows = g.D.Shelf.rows c.args.self.now.drafts in let s = c.args.s in let k = c.args.k in
+    read_or rows (16 * s + k) home _ _ _ c.unwrap_or.ensures (c.read.ensures ∙ ap (slice_get rows) c.draft_row.ensures) c.home.ensures ∙ draft_row home rows s k c.requires.1

@@ -4,9 +4,9 @@ use Rattle.engine.specs.Answers.{Kept}
 use Rattle.runs.proofs.Lawful.{After}
 use Rattle.runs.proofs.playing.play.Given as goal
 
-abbrev pub invariant-loop-i : goal.invariant-loop-i
-invariant-loop-i g l =
+abbrev pub invariant-loop-entry : goal.invariant-loop-entry
+invariant-loop-entry g l =
     After g.K.Kind.applied l.first (records_of (length (g.S.Shelf.rows l.initial.engine.show)) (length (g.D.Shelf.rows l.initial.engine.drafts))) (show_of g.K.Kind.home (g.S.Shelf.rows l.initial.engine.show))
-    l.initial.script l.script l.i (view g.K.Kind.home g.S.Shelf.rows g.D.Shelf.rows l.engine)
-    × Kept g.S.Shelf.rows g.S.Shelf.memory g.S.Shelf.sound l.initial.engine.show l.engine.show
-    × Kept g.D.Shelf.rows g.D.Shelf.memory g.D.Shelf.sound l.initial.engine.drafts l.engine.drafts
+    l.initial.entry-items l.entry-items l.entry-index (view g.K.Kind g.S.Shelf g.D.Shelf l.engine)
+    × Kept g.S.Shelf l.initial.engine.show l.engine.show
+    × Kept g.D.Shelf l.initial.engine.drafts l.engine.drafts
