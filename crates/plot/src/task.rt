@@ -17,7 +17,7 @@ fn say_check<K: Kind>(rt: &HostRuntime, image: &[u8]) -> anyhow::Result<()> {
     match image_check::<K>(image) {
         Ok(()) => println!(rt; "Check: the image is sound.")?,
         Err(fault) => {
-            let number = fault.number();
+            let number = u32::from(fault);
             println!(rt; "Check: refused {number}, {fault}.")?;
         }
     }
