@@ -4,13 +4,37 @@ use values::kind::Kind;
 use values::level::{Level, LevelChange, Levels};
 use values::timing::{Timing, TimingChange, Timings};
 
-// A call: which call it is, the station, the record, the mode or the change, and the amount.
-pub type CallNumbers = [u32; 5];
+// A call as C hands it over: which call it is, the station, the record, which mode or change, and the amount.
+#[repr(C)]
+#[derive(Clone, Copy)]
+pub struct CallNumbers {
+    pub call: u32,
+    pub station: u32,
+    pub record: u32,
+    pub which: u32,
+    pub amount: u32,
+}
 
-// An answer: 0 or the number of the refusal, up to four numbers, and the station that a refused commit names.
-pub type AnswerNumbers = [u32; 6];
+// An answer as C gets it: 0 or the number of the refusal, up to four numbers, and the station that a refused commit names.
+#[repr(C)]
+#[derive(Clone, Copy)]
+pub struct AnswerNumbers {
+    pub refusal: u32,
+    pub numbers: [u32; 4],
+    pub station: u32,
+}
 
-// A kind whose changes and values have plain numbers.
+impl From<[u32; 4]> for AnswerNumbers {
+    fn from(numbers: [u32; 4]) -> AnswerNumbers {
+        AnswerNumbers {
+            refusal: 0,
+            numbers,
+            station: 0,
+        }
+    }
+}
+
+// A kind whose changes and values have plain numbers, since C has no enum of ours.
 pub trait Coded: Kind {
     fn change_of(which: u32, amount: u16) -> Self::Change;
 
@@ -54,18 +78,23 @@ impl Coded for Timings {
 
 // The call that the numbers stand for; a number past 9 is count.
 pub(crate) fn call_of<K: Coded>(n: &CallNumbers) -> Call<K::Change> {
-    let station = n[1];
-    let record = n[2];
-    let mode = if n[3] == 0 {
+    let CallNumbers {
+        call,
+        station,
+        record,
+        which,
+        amount,
+    } = *n;
+    let mode = if which == 0 {
         Mode::Shared
     } else {
         Mode::Exclusive
     };
-    match n[0] {
+    match call {
         0 => Call::Begin(station),
         1 => Call::Take(station, record, mode),
         2 => Call::Look(station, record),
-        3 => Call::Change(station, record, K::change_of(n[3], (n[4] & 0xffff) as u16)),
+        3 => Call::Change(station, record, K::change_of(which, (amount & 0xffff) as u16)),
         4 => Call::Retire(station, record),
         5 => Call::Commit(station),
         6 => Call::GiveUp(station),
@@ -76,32 +105,39 @@ pub(crate) fn call_of<K: Coded>(n: &CallNumbers) -> Call<K::Change> {
     }
 }
 
-fn refused(why: Refusal) -> AnswerNumbers {
-    match why {
-        Refusal::Bound { bonds, station } => [11, bonds, 0, 0, 0, station],
-        _ => [why.into(), 0, 0, 0, 0, 0],
+impl From<Refusal> for AnswerNumbers {
+    fn from(why: Refusal) -> AnswerNumbers {
+        let (bonds, station) = match why {
+            Refusal::Bound { bonds, station } => (bonds, station),
+            _ => (0, 0),
+        };
+        AnswerNumbers {
+            refusal: u32::from(why),
+            numbers: [bonds, 0, 0, 0],
+            station,
+        }
     }
 }
 
 // The state, the stamp (0 where there is none), the bonds, and the record that is waited for plus 1 (0 where there is none).
-fn stands(s: Standing) -> AnswerNumbers {
-    let stamp = s.stamp.unwrap_or(0);
-    let awaits = s.awaits.map_or(0, |at| at.saturating_add(1));
-    [0, s.state as u32, stamp, s.bonds, awaits, 0]
+impl From<Standing> for AnswerNumbers {
+    fn from(s: Standing) -> AnswerNumbers {
+        let stamp = s.stamp.unwrap_or(0);
+        let awaits = s.awaits.map_or(0, |at| at.saturating_add(1));
+        AnswerNumbers::from([s.state as u32, stamp, s.bonds, awaits])
+    }
 }
 
 // The numbers of an answer.
 pub(crate) fn numbers_of_answer<K: Coded>(answer: Answer<K::Value>) -> AnswerNumbers {
     match answer {
-        Answer::Refused(why) => refused(why),
-        Answer::Number(n) => [0, n, 0, 0, 0, 0],
-        Answer::Taken(Outcome::Granted, wounded) => [0, 1, wounded, 0, 0, 0],
-        Answer::Taken(Outcome::Waits, wounded) => [0, 0, wounded, 0, 0, 0],
-        Answer::Value(v) => {
-            let [a, b, c, d] = K::numbers_of(v);
-            [0, a, b, c, d, 0]
+        Answer::Refused(why) => AnswerNumbers::from(why),
+        Answer::Number(n) | Answer::Committed(n) => AnswerNumbers::from([n, 0, 0, 0]),
+        Answer::Taken(outcome, wounded) => {
+            let granted = u32::from(outcome == Outcome::Granted);
+            AnswerNumbers::from([granted, wounded, 0, 0])
         }
-        Answer::Committed(n) => [0, n, 0, 0, 0, 0],
-        Answer::Stands(s) => stands(s),
+        Answer::Value(v) => AnswerNumbers::from(K::numbers_of(v)),
+        Answer::Stands(s) => AnswerNumbers::from(s),
     }
 }

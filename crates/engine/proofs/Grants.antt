@@ -59,7 +59,7 @@ module _ {V : Type 0} (these those : ℕ → ℕ → V) (show : ℕ → V) (t : 
       let room = room_at t.stations s r m t.full t.room waits in
       let low : s < 16 = room.0 in let full : length t.stations ≡ 16 = t.full in
       ap (stations_with those) e
-      ∙ granted_by_rules those t.stations show s r m (omega arith) waits room.1 (started ∙ ap (λ (u : Stations V). draft_for m (before u show s r)) (sym unseen))
+      ∙ granted_by_rules those t.stations show s r m (omega arith) waits (started ∙ ap (λ (u : Stations V). draft_for m (before u show s r)) (sym unseen))
       ∙ ap (grant show s) unseen
 
   -- where the station does not wait, the rules grant nothing

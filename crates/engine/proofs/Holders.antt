@@ -1,8 +1,8 @@
 -- Look and change, in the view: the hold by its place, its draft, and the draft changed.
 use Rattle.std.proofs.Common.{◌≡◌, ℕ, ◌+◌, ◌*◌, ◌<◌, true, List, length, get_or, set, Some, None, Option, sym, ap, ◌∙◌, subst, arith, length-set, leb-false}
 use Rattle.std.proofs.lemmas.Bool.Decides.{nat_tests}
-use Rattle.std.proofs.lemmas.Grind.{common_steps}
 use Rattle.std.proofs.lemmas.Bool.{not-false}
+use Rattle.std.proofs.lemmas.Option.{slice_get-get_or}
 use Rattle.rules.specs.declared.Refusal.{Refusal}
 use Rattle.rules.specs.declared.Mode.TheVariants.{Shared}
 use Rattle.rules.specs.declared.Call.TheVariants.{Look, Change}
@@ -11,6 +11,7 @@ use Rattle.rules.specs.Tables.{Stations, conflict, hold_on, draft_in}
 use Rattle.rules.specs.Operations.{before, or_else, seen}
 use Rattle.rules.specs.Calls.{refusals, first_refusal, step, after}
 use Rattle.rules.proofs.Admission.{all_tests_fail}
+use Rattle.locks.specs.declared.station.Hold.{Hold}
 use Rattle.locks.specs.declared.table.LockTable.{LockTable}
 use Rattle.locks.specs.View.{no_hold, place_on, stations_with}
 use Rattle.locks.specs.Admission.{table_with, table_of, refused}
@@ -33,7 +34,9 @@ module _ {V : Type 0} (C : Type 0) (drafts : ℕ → ℕ → V) (show : ℕ → 
 -- the draft at the place of a hold is the draft of the hold on its record
 draft_there : {V : Type 0} (drafts : ℕ → ℕ → V) (t : LockTable) (i r k : ℕ) → Some k ≡ place_on r (hand_of t i) (held_of t i) → k < held_of t i
     → draft_of_hold (own_hold t i k) (drafts i k) ≡ draft_in (hold_on r (stations_with drafts t.stations i).hand)
-draft_there drafts t i r k place low = grind (arith, nat_tests, common_steps, draft_at_place (drafts i) r (hand_of t i) (held_of t i))
+draft_there drafts t i r k place low =
+    ap (λ (o : Option Hold). draft_of_hold o (drafts i k)) (slice_get-get_or (hand_of t i) k no_hold low)
+    ∙ sym (draft_at_place (drafts i) r (hand_of t i) (held_of t i) ∙ ap (draft_at (drafts i) (hand_of t i)) (sym place))
 
 -- what is seen at the place of a hold is what the rules let its station see
 pub looked : {V : Type 0} (drafts : ℕ → ℕ → V) (show : ℕ → V) (t : LockTable) (s r i k : ℕ) (v : V) → i ≡ s

@@ -14,7 +14,7 @@ use Rattle.locks.specs.Admission.{table_with, refused, HoldOf}
 use Rattle.locks.specs.Changes.{change, retired_at}
 use Rattle.locks.proofs.Drafts.{retire_same}
 use Rattle.locks.proofs.ChangedViews.{retired_view}
-use Rattle.engine.specs.View.{records_of, show_of, drafts_of, table_from, hand_of}
+use Rattle.engine.specs.View.{records_of, show_of, drafts_of, table_from}
 use Rattle.engine.specs.Promoting.{RowsFor}
 use Rattle.engine.proofs.Steps.{table_of_all, accepted_step}
 use Rattle.engine.proofs.Takes.{fit_served}
