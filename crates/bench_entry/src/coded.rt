@@ -94,7 +94,11 @@ pub(crate) fn call_of<K: Coded>(n: &CallNumbers) -> Call<K::Change> {
         0 => Call::Begin(station),
         1 => Call::Take(station, record, mode),
         2 => Call::Look(station, record),
-        3 => Call::Change(station, record, K::change_of(which, (amount & 0xffff) as u16)),
+        3 => Call::Change(
+            station,
+            record,
+            K::change_of(which, (amount & 0xffff) as u16),
+        ),
         4 => Call::Retire(station, record),
         5 => Call::Commit(station),
         6 => Call::GiveUp(station),
