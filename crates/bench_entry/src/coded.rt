@@ -76,7 +76,7 @@ impl Coded for Timings {
     }
 }
 
-// The call that the numbers stand for; a number past 9 is count.
+// The call that the numbers stand for; a number past 9 is count. By numbers, since that is what C hands over.
 pub(crate) fn call_of<K: Coded>(n: &CallNumbers) -> Call<K::Change> {
     let CallNumbers {
         call,

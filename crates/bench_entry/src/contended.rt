@@ -22,7 +22,7 @@ fn play_numbers<K: Coded, S: Shelf<K> + Drop, D: Shelf<K> + Drop>(
     }
 }
 
-// Plays on a show of levels in a table shelf.
+// Plays on a show of levels in a table shelf. C has no generics: one entry for each kind.
 #[unsafe(no_mangle)]
 pub extern "C" fn bench_play_levels(
     show: &mut [u16],

@@ -42,7 +42,7 @@ fn call_at(step: Step, s: u32) -> Call<LevelChange> {
     }
 }
 
-// The step after one that was not refused.
+// The step after one that was not refused. By `match`: a step is data that a station keeps between its turns, and no code to run.
 fn step_after(step: Step, retiring: bool) -> Step {
     match step {
         Step::Begin => Step::TakeHot,

@@ -42,7 +42,7 @@ impl<K: Kind, S: Shelf<K>, D: Shelf<K>> Engine<K, S, D> {
         ensures drafts { self.new.drafts ≡ self.old.drafts }
         ensures locks { self.new.locks ≡ self.old.locks }
     {
-        // By place, not over the holds: the row of a draft goes by its place.
+        // By place: a walk over the holds gets no proof, since the checker does not follow `locks` lent while `show` is written.
         for k in 0..self.locks.held(s) {
             self.write_draft(s, k);
         }

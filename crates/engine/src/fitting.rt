@@ -1,5 +1,5 @@
 // Whether two shelves fit an engine, and opening it.
-ghost use Rattle.std.specs.Prelude.{◌≡◌, ◌+◌, ◌*◌, ◌<◌};
+ghost use Rattle.std.specs.Prelude.{◌≡◌, ◌+◌, ◌*◌, ◌<◌, Some, codes};
 ghost use Rattle.engine.specs.View.{fit_number, fit_answer, opened_on, shown, drafted, view, SameTable};
 
 use crate::Engine;
@@ -11,19 +11,20 @@ use std::marker::PhantomData;
 use values::kind::Kind;
 
 // The refusal of two shelves that do not fit an engine.
-#[derive(Clone, Copy, PartialEq, Debug)]
+#[derive(Clone, Copy, PartialEq, Eq, Debug)]
 pub struct Unfit;
 
-impl Unfit {
-    // Its number.
-    pub fn number(self) -> u32
-        ensures { result ≡ 20 }
-    {
+impl From<Unfit> for u32 {
+    ghost from_gives = { λ _ n. n ≡ 20 };
+
+    fn from(_why: Unfit) -> u32 {
         20
     }
 }
 
 impl fmt::Display for Unfit {
+    ghost output = { λ _. Some (codes "the shelves do not fit") };
+
     fn fmt<W: fmt::Write>(&self, f: &mut fmt::Formatter<W>) -> fmt::Result {
         write!(f, "the shelves do not fit")
     }
@@ -42,13 +43,13 @@ pub fn check_fit(show: usize, drafts: usize) -> Result<(), Unfit>
     }
 }
 
-// The same as a number: 0, or 20 where a count is wrong.
+// The same as a number, which is what stations are told: 0, or 20 where a count is wrong.
 pub fn fit(show: usize, drafts: usize) -> u32
     ensures { result ≡ fit_number show drafts }
 {
     match check_fit(show, drafts) {
         Ok(()) => 0,
-        Err(why) => why.number(),
+        Err(why) => u32::from(why),
     }
 }
 

@@ -33,7 +33,7 @@ impl Hold {
 }
 
 impl Station {
-    // The stamp of the attempt; 0 where there is none.
+    // The stamp of the attempt; 0 where there is none. No Option: the rules compare stamps, and give an idle station 0.
     pub(crate) fn stamp(&self) -> u32
         ensures { result ≡ stamp_of self.now.phase }
     {

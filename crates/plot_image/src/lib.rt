@@ -26,7 +26,7 @@ pub fn check_as(image: &[u8], kind: u32) -> Result<(), Fault>
     }
 }
 
-// The fault as the one number that the host gets: refusal + 256 x block + 65,536 x row, with 0 where it names none.
+// The fault as the one number that the host, in C, gets: refusal + 256 x block + 65,536 x row, with 0 where it names none.
 fn number_of(found: Result<(), Fault>) -> u32
     ensures { result ≡ host_number found }
 {

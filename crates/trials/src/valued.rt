@@ -80,8 +80,14 @@ fn kinds_are_named(rt: HostRuntime) -> Result<(), Fail> {
     assert_eq!(rt; "timing".parse::<KindName>(), Ok(KindName::Timing));
     assert_eq!(rt; "Timing".parse::<KindName>(), Err(UnknownWord));
     assert_eq!(rt; KindName::Level.to_string(rt.alloc())?.as_str(), "level");
-    assert_eq!(rt; UnknownWord.to_string(rt.alloc())?.as_str(), "level or timing");
-    assert_eq!(rt; UnknownKind(3).to_string(rt.alloc())?.as_str(), "no kind has number 3");
+    assert_eq!(rt;
+        UnknownWord.to_string(rt.alloc())?.as_str(),
+        "level or timing"
+    );
+    assert_eq!(rt;
+        UnknownKind(3).to_string(rt.alloc())?.as_str(),
+        "no kind has number 3"
+    );
     Ok(())
 }
 
@@ -90,6 +96,9 @@ fn links_have_numbers(rt: HostRuntime) -> Result<(), Fail> {
     assert_eq!(rt; Link::try_from(2u8), Ok(Link::WithPrevious));
     assert_eq!(rt; Link::try_from(3u8), Err(UnknownLink(3)));
     assert_eq!(rt; u8::from(Link::AfterPrevious), 1);
-    assert_eq!(rt; UnknownLink(3).to_string(rt.alloc())?.as_str(), "no link has number 3");
+    assert_eq!(rt;
+        UnknownLink(3).to_string(rt.alloc())?.as_str(),
+        "no link has number 3"
+    );
     Ok(())
 }

@@ -42,6 +42,7 @@ pub trait Kind {
     fn pack(v: Self::Value) -> [u8; 16]
         ensures { result ≡ packed v };
 
+    // The u8 is a place among the bytes and no code, so that an error type of its own would say no more.
     fn unpack(b: [u8; 16]) -> Result<Self::Value, u8>
         ensures { result ≡ unpacked b };
 

@@ -11,7 +11,8 @@ pub struct Timing {
     ghost ok: { (up ≤ 36000) × (down ≤ 36000) × (wait ≤ 36000) },
 }
 
-// Sets one of the four. A time above an hour becomes an hour; a link above 2 leaves the timing as it is.
+// Sets one of the four. A time above an hour becomes an hour; a link above 2 leaves the timing as it is, so that the change takes
+// any number and not a Link.
 #[derive(Clone, Copy, PartialEq, Eq, Debug)]
 pub enum TimingChange {
     FadeUp(u16),

@@ -6,7 +6,7 @@ use super::{LONGEST, Link, Timing};
 use std::error::Error;
 use std::fmt;
 
-// The link is 0 by hand, 1 after the previous cue, 2 with it.
+// The link is 0 by hand, 1 after the previous cue, 2 with it: a number, since the host's memory may hold any.
 #[repr(C)]
 #[derive(Clone, Copy, PartialEq, Eq, Debug)]
 pub struct TimingNumbers {
