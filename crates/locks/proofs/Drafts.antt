@@ -4,7 +4,7 @@ use mathlib.Core.Path.{fun_ext}
 use Rattle.rules.specs.declared.Mode.{Mode}
 use Rattle.rules.specs.declared.Refusal.{Refusal}
 use Rattle.rules.specs.declared.Refusal.TheVariants as refusal
-use Rattle.rules.specs.declared.Call.TheVariants.{Begin, Take, Look, Change, Retire, Commit, GiveUp, Again, Standing, Plotted}
+use Rattle.rules.specs.declared.Call.TheVariants.{Take, Look, Change, Retire, Commit}
 use Rattle.rules.specs.Searches.{any_below, first_below, until}
 use Rattle.rules.specs.Tables.{Phase, Table, older, conflicts, owned_conflicts, hold_on, waits_for, idle, running, wounded, waiting, is_idle, is_waiting, is_wounded}
 use Rattle.rules.specs.Operations.{binds, bonds, bonds_in, behind_bond, behind_bond_in, exclusive_in_common, joins, with_member, widen, blocks, ready, grantable, must_yield}
@@ -50,10 +50,6 @@ exclusive_in_common_same a c b d hand other (suc n) m =
 
 -- two views of the same stations
 module _ {V W : Type 0} (these : ℕ → ℕ → V) (those : ℕ → ℕ → W) (xs : List Station) where
-  -- the same stations are older
-  pub older_same : (j i : ℕ) → older (stations_with these xs) j i ≡ older (stations_with those xs) j i
-  older_same j i = refl
-
   -- the same stations have a hold on record r that conflicts
   station_conflicts_same : (m : Mode) (r j : ℕ) → conflicts m (hold_on r (stations_with these xs j).hand) ≡ conflicts m (hold_on r (stations_with those xs j).hand)
   station_conflicts_same m r j = conflicts_same (these j) (those j) r (hand_at xs j) (length (hand_at xs j)) m
@@ -142,26 +138,6 @@ module _ {V W : Type 0} (C D : Type 0) (these : ℕ → ℕ → V) (those : ℕ 
   -- the table with those drafts
   abbrev that : Table W
   that = table_with those other t records
-
-  -- a begin is refused alike
-  pub begin_same : (i : ℕ) → refusals {C = C} named (Begin i) this ≡ refusals {C = D} named (Begin i) that
-  begin_same i = refl
-
-  -- a give up is refused alike
-  pub give_up_same : (i : ℕ) → refusals {C = C} named (GiveUp i) this ≡ refusals {C = D} named (GiveUp i) that
-  give_up_same i = refl
-
-  -- an again is refused alike
-  pub again_same : (i : ℕ) → refusals {C = C} named (Again i) this ≡ refusals {C = D} named (Again i) that
-  again_same i = refl
-
-  -- a standing is refused alike
-  pub standing_refused_same : (i : ℕ) → refusals {C = C} named (Standing i) this ≡ refusals {C = D} named (Standing i) that
-  standing_refused_same i = refl
-
-  -- a plotted is refused alike
-  pub plotted_same : (r : ℕ) → refusals {C = C} named (Plotted r) this ≡ refusals {C = D} named (Plotted r) that
-  plotted_same r = refl
 
   -- the tests of the station in a call that only a running station may make, before the rest
   abbrev running_and : ℕ → List (Bool × Refusal) → List (Bool × Refusal)

@@ -214,6 +214,18 @@ pub wounded_none : (members : ℕ → Bool) (xs : List Station) → xs ≡ wound
 unfolding wounded_below
 wounded_none members xs = refl
 
+-- what every table keeps is kept where the first n members are wounded
+pub wounded_kept : (n : ℕ) → n ≤ 16 → (members : ℕ → Bool) (xs : List Station) (next commits : ℕ) → length xs ≡ 16
+    → ((i : ℕ) → i < 16 → HasRoom (get_or xs i no_station)) → commits + attempts xs ≤ next → next < 4294967296 → Facts (wounded_below n members xs) next commits
+unfolding wounded_below
+wounded_kept zero low members xs next commits full room stamped width = record { full = full; room = room; stamped = stamped; width = width }
+wounded_kept (suc n) low members xs next commits full room stamped width =
+    let before = wounded_kept n (omega arith) members xs next commits full room stamped width in
+    let ys = wounded_below n members xs in
+    cond_both (members n) (change wounded n ys) ys (λ zs. Facts zs next commits)
+    (λ _. kept_by wounded wounded_keeps ys n next commits no_station (wounded (get_or ys n no_station)) (omega arith) refl before.full before.room before.stamped before.width)
+    (λ _. before)
+
 -- a station that waits has a place for the hold
 pub room_at : (xs : List Station) (i r : ℕ) (m : Mode) → length xs ≡ 16 → ((i : ℕ) → i < 16 → HasRoom (get_or xs i no_station))
     → Some (r, m) ≡ awaited_at xs i → (i < 16) × (length (hand_at xs i) < 16)

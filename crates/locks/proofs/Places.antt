@@ -5,7 +5,7 @@ use Rattle.std.specs.List.{list_any, count_by}
 use Rattle.rules.specs.Searches.{any_below, count_below}
 
 -- the number 0 looked at first
-any_first : (n : ℕ) (p : ℕ → Bool) → any_below (suc n) p ≡ (p 0 || any_below n (λ k. p (suc k)))
+pub any_first : (n : ℕ) (p : ℕ → Bool) → any_below (suc n) p ≡ (p 0 || any_below n (λ k. p (suc k)))
 any_first zero p = refl
 any_first (suc n) p = ap (λ b. p (suc n) || b) (any_first n p) ∙ swap (p (suc n)) (p 0)
   where

@@ -15,17 +15,7 @@ use Rattle.std.specs.Iterator.{Drains, ChecksAny, FindsItem, ReducesItems}
 use Rattle.std.specs.List.{FoldsTo, list_any, reduce, range_with_len}
 use Rattle.rules.specs.Searches.{any_below, first_below}
 use Rattle.rules.proofs.Searches.{first_below_empty}
-
--- two tests change places
-or_swap : (a b c : Bool) → (a || (b || c)) ≡ (b || (a || c))
-or_swap false b c = refl
-or_swap true true c = refl
-or_swap true false c = refl
-
--- the first number split off
-any_front : (n : ℕ) (p : ℕ → Bool) → any_below (suc n) p ≡ (p 0 || any_below n (λ k. p (suc k)))
-any_front zero p = refl
-any_front (suc n) p = ap (λ b. p (suc n) || b) (any_front n p) ∙ or_swap (p (suc n)) (p 0) (any_below n (λ k. p (suc k)))
+use Rattle.locks.proofs.Places.{any_first}
 
 -- the numbers of a range, front to back
 any_range : (n a : ℕ) (p : ℕ → Bool) → list_any p (range_with_len a n) ≡ any_below n (λ k. p (a + k))
@@ -33,7 +23,7 @@ any_range zero a p = refl
 any_range (suc n) a p =
     ap (λ b. p a || b) (any_range n (a + 1) p ∙ ap (any_below n) (fun_ext (λ k. ap p (let e : a + 1 + k ≡ a + suc k = omega arith in e))))
     ∙ ap (λ k. p k || any_below n (λ k. p (a + suc k))) (let e : a ≡ a + 0 = omega arith in e)
-    ∙ sym (any_front n (λ k. p (a + k)))
+    ∙ sym (any_first n (λ k. p (a + k)))
 
 -- `any` over the numbers below n
 pub any_found : {F : Type 0} {g : Mut F (ℕ × Unit {0}) Bool} (n : ℕ) (p : ℕ → Bool) (u : Range ℕ) {f : F} {r : Bool}

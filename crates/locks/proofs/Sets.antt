@@ -1,13 +1,11 @@
 -- Sets of stations: how they are made, and how their members are counted.
-use Rattle.std.proofs.Common.{◌≡◌, ℕ, zero, suc, ◌+◌, ◌<◌, ◌≤◌, Bool, true, false, cond, List, [], ◌∷◌, length, count_by, get_or, sym, refl, ap, ◌∙◌, subst, ⊎_elim, add-zero, arith}
+use Rattle.std.proofs.Common.{◌≡◌, ℕ, zero, suc, ◌+◌, ◌<◌, ◌≤◌, Bool, false, List, get_or, sym, refl, ◌∙◌, subst, ⊎_elim, arith}
 use mathlib.Core.Path.{fun_ext}
 use denote.Param.Members.{Mut, Called}
 use Rattle.std.specs.Array.{index_steps, IsFromFnResultFrom}
 use Rattle.std.specs.Iterator.{CallableAtEachTurn}
 use Rattle.std.proofs.lemmas.Bool.{cases_eq, cases_lt}
 use Rattle.std.proofs.lemmas.Fn.{serves_by}
-use Rattle.std.proofs.lemmas.List.Sums.{sum_by-cons}
-use Rattle.rules.specs.Searches.{count_below}
 use Rattle.locks.specs.View.{member_of}
 
 -- what no call changes may be asked at each number below n
@@ -32,18 +30,3 @@ made_at {F} {B} g f ys stays (suc n) i made k l h d =
 pub set_of : (p : ℕ → Bool) (members : List Bool) → ((j : ℕ) → j < 16 → member_of members j ≡ p j)
     → ((j : ℕ) → 16 ≤ j → member_of members j ≡ false) → ((j : ℕ) → 16 ≤ j → p j ≡ false) → member_of members ≡ p
 set_of p members below past none = fun_ext (λ j. ⊎_elim (below j) (λ h. past j h ∙ sym (none j h)) (cases_lt j 16))
-
--- a count with the first number split off
-count_front : (n : ℕ) (p : ℕ → Bool) → count_below (suc n) p ≡ cond (p 0) 1 0 + count_below n (λ k. p (suc k))
-count_front zero p = sym (add-zero (cond (p 0) 1 0))
-count_front (suc n) p = go (p (suc n)) (count_front n p)
-  where
-    go : (b : Bool) → count_below (suc n) p ≡ cond (p 0) 1 0 + count_below n (λ k. p (suc k))
-        → cond b (suc (count_below (suc n) p)) (count_below (suc n) p) ≡ cond (p 0) 1 0 + cond b (suc (count_below n (λ k. p (suc k)))) (count_below n (λ k. p (suc k)))
-    go true e = omega arith
-    go false e = e
-
--- the members that an array has
-pub count_members : (members : List Bool) → count_by (λ b. b) members ≡ count_below (length members) (member_of members)
-count_members [] = refl
-count_members (b ∷ bs) = sum_by-cons (λ b. cond b 1 0) b bs ∙ ap (λ n. cond b 1 0 + n) (count_members bs) ∙ sym (count_front (length bs) (member_of (b ∷ bs)))

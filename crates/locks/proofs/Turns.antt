@@ -1,13 +1,9 @@
 -- The turns of a loop that counts up, and tests joined.
-use Rattle.std.proofs.Common.{◌≡◌, ℕ, suc, ◌+◌, ◌≤◌, Bool, ◌&&◌, ◌||◌, ap, ◌∙◌, add-one, arith}
+use Rattle.std.proofs.Common.{◌≡◌, ℕ, suc, ◌+◌, Bool, ◌&&◌, ◌||◌, ap, ◌∙◌, add-one}
 
 -- one more turn, as the rules' recursion has it
 pub one_more : {B : Type 0} (f : ℕ → B) (n : ℕ) → f (n + 1) ≡ f (suc n)
 one_more f n = ap f (add-one n)
-
--- after the last turn
-pub all_turns : {B : Type 0} (f : ℕ → B) (x : B) (n m : ℕ) → x ≡ f n → n ≤ m → m ≤ n → x ≡ f m
-all_turns f x n m e l g = let same : n ≡ m = omega arith in e ∙ ap f same
 
 -- equal parts make equal conjunctions
 pub and_both : {a b x y : Bool} → a ≡ b → x ≡ y → (a && x) ≡ (b && y)

@@ -99,10 +99,9 @@ impl LockTable {
         ensures stamps { self.new.next ≡ self.old.next }
         ensures commits { self.new.commits ≡ self.old.commits }
     {
-        // By station number: after a walk over `iter_mut` the proof would know nothing of the stations.
-        for s in 0..16 {
+        for (s, station) in self.stations.iter_mut().enumerate() {
             if members.contains(s) {
-                self.change(s, |station| station.wound());
+                station.wound();
             }
         }
     }
