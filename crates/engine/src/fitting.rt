@@ -89,7 +89,7 @@ impl<K: Kind, S: Shelf<K>, D: Shelf<K>> Engine<K, S, D> {
         }
     }
 
-    // The plotted value of a record, home past the last. Apart from `draft_at`: another shelf, and another rule for the row.
+    // The plotted value of a record, home past the last.
     pub(crate) fn value_at(&self, at: u32) -> K::Value
         ensures { result ≡ shown K.Kind S.Shelf self.now at }
     {

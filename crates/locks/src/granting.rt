@@ -63,7 +63,7 @@ impl LockTable {
         (0..16).any(|j| self.blocks(i, at, mode, j))
     }
 
-    // Whether station i may be granted what it waits for. By `match`: the rules tell these two cases apart, and `is_some_and` is no plainer.
+    // Whether station i may be granted what it waits for.
     fn ready(&self, i: usize) -> bool
         ensures { result ≡ grantable (bare self.now.stations) i }
     {
