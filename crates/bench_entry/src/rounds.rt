@@ -29,6 +29,7 @@ fn own_record(s: u32, n: u32) -> u32 {
     s.saturating_mul(OWN).saturating_add(n).saturating_add(1)
 }
 
+// The call of a step, which is data and no code to run, as at `step_after`.
 fn call_at(step: Step, s: u32) -> Call<LevelChange> {
     match step {
         Step::Begin => Call::Begin(s),
