@@ -123,7 +123,8 @@ impl From<Refusal> for AnswerNumbers {
     }
 }
 
-// The state by its place in `State` (0 idle, 1 running, 2 waiting, 3 wounded), the stamp (0 where there is none), the bonds, and the record that is waited for plus 1 (0 where there is none).
+// The state by its place in `State` (0 idle, 1 running, 2 waiting, 3 wounded), the stamp (0 where there is none), the bonds, and the
+// record that is waited for plus 1 (0 where there is none).
 impl From<Standing> for AnswerNumbers {
     fn from(s: Standing) -> AnswerNumbers {
         let stamp = s.stamp.unwrap_or(0);
