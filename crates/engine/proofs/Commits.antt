@@ -15,7 +15,8 @@ use Rattle.rules.proofs.Admission.{all_tests_fail, commit_admitted}
 use Rattle.locks.specs.declared.station.Hold.{Hold}
 use Rattle.locks.specs.declared.station.Station.{Station}
 use Rattle.locks.specs.declared.table.LockTable.{LockTable}
-use Rattle.locks.specs.View.{bare, no_hold, hold_with, hand_with, stations_with, awaited_at, active_at}
+use Rattle.locks.specs.Hand.{no_hold}
+use Rattle.locks.specs.View.{bare, hold_with, hand_with, stations_with, awaited_at, active_at}
 use Rattle.locks.specs.Admission.{table_with, table_of, refused}
 use Rattle.locks.specs.Changes.{change, freed}
 use Rattle.locks.proofs.Drafts.{commit_same, bonds_same, behind_bond_same}

@@ -13,7 +13,8 @@ use Rattle.rules.specs.Calls.{refusals, first_refusal, step, after}
 use Rattle.rules.proofs.Admission.{all_tests_fail}
 use Rattle.locks.specs.declared.station.Hold.{Hold}
 use Rattle.locks.specs.declared.table.LockTable.{LockTable}
-use Rattle.locks.specs.View.{no_hold, place_on, stations_with}
+use Rattle.locks.specs.Hand.{no_hold}
+use Rattle.locks.specs.View.{place_on, stations_with}
 use Rattle.locks.specs.Admission.{table_with, table_of, refused}
 use Rattle.locks.proofs.Drafts.{look_same, change_same}
 use Rattle.locks.proofs.Hands.{draft_at, draft_at_place, shared_at, shared_at_place, draft_exclusive}

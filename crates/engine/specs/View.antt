@@ -4,7 +4,8 @@ use Rattle.rules.specs.Tables.{Stations, Table}
 use Rattle.rules.specs.Operations.{before, draft_for}
 use Rattle.rules.specs.Calls.{opened}
 use Rattle.locks.specs.declared.station.Hold.{Hold}
-use Rattle.locks.specs.View.{no_hold, no_station, hand_at, stations_with}
+use Rattle.locks.specs.Hand.{no_hold}
+use Rattle.locks.specs.View.{no_station, hand_at, stations_with}
 use Rattle.locks.specs.Asked.{hold_at}
 use Rattle.locks.specs.declared.table.LockTable.{LockTable}
 use Rattle.locks.specs.Admission.{table_with}

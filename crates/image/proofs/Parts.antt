@@ -11,6 +11,10 @@ length_part d at n h = let k = length-drop at d in length-take n (drop at d) ∙
 pub get_d_part : (d : List ℕ) (at n j : ℕ) → j < n → get_or (part d at n) j 0 ≡ get_or d (at + j) 0
 get_d_part d at n j h = get_or-take n (drop at d) j 0 h ∙ get_or-drop at d j 0
 
+-- a part whose width is computed
+pub part_as : (d : List ℕ) (at n w : ℕ) → w ≡ n → part d at w ≡ part d at n
+part_as d at n w e = ap (λ (m : ℕ). part d at m) e
+
 -- a part is a list of the same bytes
 pub part_is : (d s : List ℕ) (at n : ℕ) → at + n ≤ length d → length s ≡ n → ((j : ℕ) → j < n → get_or d (at + j) 0 ≡ get_or s j 0) → part d at n ≡ s
 part_is d s at n h wide each =

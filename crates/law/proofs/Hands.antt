@@ -5,7 +5,7 @@ use Rattle.std.proofs.lemmas.Bool.Decides.{nat_tests}
 use Rattle.rules.specs.declared.Mode.{Mode}
 use Rattle.rules.specs.declared.Mode.TheVariants.{Exclusive}
 use Rattle.rules.specs.Searches.{any_below}
-use Rattle.rules.specs.Tables.{Hold, Stations, conflict, hold_mode, hold_on, draft_in, conflicts}
+use Rattle.rules.specs.Tables.{Hold, Stations, conflict, mode_with, hold_mode, hold_on, draft_in, conflicts}
 use Rattle.rules.specs.Operations.{older_draft, binds, bonds_in, bonds, adjust}
 use Rattle.rules.proofs.Searches.{any_below_none, any_below_false}
 
@@ -79,6 +79,14 @@ nobody_binds_no_bonds {V} t i free = all (t i).hand
 pub conflict_parts : {V : Type 0} (m : Mode) (x : Option (Hold V)) → conflicts m x ≡ true
     → (h : Hold V) × (x ≡ Some h) × (conflict m (hold_mode h) ≡ true)
 conflict_parts m x q = grind arith
+
+-- an exclusive hold has a draft
+pub exclusive_has_draft : {V : Type 0} (h : Hold V) → hold_mode h ≡ Exclusive → (d : V) × (h.draft ≡ Some d)
+exclusive_has_draft {V} h e = go h.draft e
+  where
+    go : (g : Option V) → mode_with g ≡ Exclusive → (d : V) × (g ≡ Some d)
+    go None e = cc
+    go (Some v) e = (v, refl)
 
 -- whoever has a draft of a record holds it exclusively
 pub draft_is_exclusive : {V : Type 0} (o : Option (Hold V)) (d : V) → draft_in o ≡ Some d

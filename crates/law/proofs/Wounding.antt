@@ -1,16 +1,16 @@
 -- Wounding a widened set: who is in it, and what wounding keeps.
-use Rattle.std.proofs.Common.{◌≡◌, ℕ, ◌<◌, Bool, true, false, List, [], ◌∷◌, length, is_some, Some, None, sym, ap, ◌∙◌, arith}
+use Rattle.std.proofs.Common.{◌≡◌, ℕ, ◌<◌, Bool, true, false, cond, List, [], ◌∷◌, length, is_some, Some, None, sym, refl, ap, ◌∙◌, arith}
 use Rattle.std.proofs.lemmas.Bool.{true_from_ne_false}
 use Rattle.std.proofs.lemmas.Bool.Decides.{nat_tests}
 use Rattle.rules.specs.declared.Mode.{Mode}
 use Rattle.rules.specs.declared.Mode.TheVariants.{Exclusive}
-use Rattle.rules.specs.Tables.{Hold, running, Stations, conflict, hold_mode, works, hold_on}
+use Rattle.rules.specs.Tables.{Hold, running, Stations, conflict, hold_mode, works, hold_on, wounded_station}
 use Rattle.rules.specs.Operations.{widen, wound, must_yield, wounded_by_take, add_wait}
 use Rattle.rules.specs.Widening.{holds, holds_exclusively}
 use Rattle.rules.proofs.Widening.{found_holds, widened_has_first, widened_closed, widened_least}
 use Rattle.rules.proofs.Spared.{taker_spared}
 use Rattle.law.specs.Observer.{at_work}
-use Rattle.law.proofs.Invariants.{Invariant, works_not_idle, holder_works, holder_not_idle, holder_in_range, wait_keeps}
+use Rattle.law.proofs.Invariants.{Invariant, works_not_idle, holder_works, holder_not_idle, holder_in_range, AddsNothing, unchanged_adds_nothing, emptied_adds_nothing, adding_nothing_keeps, wait_keeps}
 
 -- an exclusive hold found on a record is an exclusive hold of it
 exclusive_found : {V : Type 0} (r : ℕ) (hs : List (Hold V)) (h : Hold V) → hold_on r hs ≡ Some h → hold_mode h ≡ Exclusive
@@ -59,7 +59,12 @@ module _ {V : Type 0} (members : ℕ → Bool) (t : Stations V) where
 pub wounding_keeps : {V : Type 0} {t : Stations V} {next records : ℕ} → Invariant t next records → (members : ℕ → Bool)
     → ((i : ℕ) → members i ≡ true → works (t i).phase ≡ true) → Invariant (wound members t) next records
 unfolding wound
-wounding_keeps v members at_work = grind (arith, works_not_idle)
+wounding_keeps {V} {t} v members at_work = adding_nothing_keeps (wound members t) v (λ i. go i (members i) refl)
+  where
+    go : (i : ℕ) (b : Bool) → members i ≡ b → AddsNothing (t i) (cond b (wounded_station (t i)) (t i))
+    go i true e = emptied_adds_nothing (t i) (wounded_station (t i)) refl refl
+        (λ _. (works_not_idle (t i).phase (at_work i e), refl))
+    go i false e = unchanged_adds_nothing (t i) (v.empty_handed i)
 
 -- Whom a take wounds.
 

@@ -12,7 +12,8 @@ use Rattle.rules.specs.Operations.{draft_for, younger_of, youngest, older_draft,
 use Rattle.locks.specs.declared.granting.Draft.{Draft}
 use Rattle.locks.specs.declared.station.Hold.{Hold}
 use Rattle.locks.specs.declared.station.Station.{Station}
-use Rattle.locks.specs.View.{hand_at, stations_with, placed, stamp_at, no_hold, hold_with, hand_with, no_station}
+use Rattle.locks.specs.Hand.{no_hold}
+use Rattle.locks.specs.View.{hand_at, stations_with, placed, stamp_at, hold_with, hand_with, no_station}
 use Rattle.locks.specs.Asked.{younger, stamped_draft, Below}
 use Rattle.locks.proofs.Hands.{draft_by_place}
 

@@ -8,7 +8,8 @@ use Rattle.rules.specs.Operations.{binds, bonds, bonds_in, behind_bond, behind_b
 use Rattle.rules.proofs.Naming.{naming_is_free}
 use Rattle.locks.specs.declared.station.Hold.{Hold}
 use Rattle.locks.specs.declared.station.Station.{Station}
-use Rattle.locks.specs.View.{bare, no_station, no_hold, hand_with, hold_with, station_with}
+use Rattle.locks.specs.Hand.{no_hold}
+use Rattle.locks.specs.View.{bare, no_station, hand_with, hold_with, station_with}
 use Rattle.locks.specs.Asked.{binds_on}
 use Rattle.locks.proofs.Turns.{or_both}
 use Rattle.locks.proofs.Hands.{mode_kept}

@@ -16,7 +16,8 @@ use Rattle.locks.specs.declared.station.Hold.{Hold}
 use Rattle.locks.specs.declared.station.Phase.{Phase}
 use Rattle.locks.specs.declared.station.Phase.TheVariants.{Idle, Running, Waiting, Wounded}
 use Rattle.locks.specs.declared.station.Station.{Station}
-use Rattle.locks.specs.View.{no_hold, no_station, phase_of, stamp_of, active, hold_with, hand_with, station_with, stations_with, hand_at, place_on, awaited_in, awaited_at}
+use Rattle.locks.specs.Hand.{no_hold}
+use Rattle.locks.specs.View.{no_station, phase_of, stamp_of, active, hold_with, hand_with, station_with, stations_with, hand_at, place_on, awaited_in, awaited_at}
 use Rattle.locks.specs.Changes.{in_phase, freed, started, wounded, wounded_phase, awaiting, waiting_in, granted, granted_in, again, again_in, retired_hold, retired_at, change, wounded_below}
 use Rattle.locks.proofs.Kept.{active_below}
 

@@ -13,7 +13,8 @@ use Rattle.rules.proofs.Searches.{any_below_same}
 use Rattle.locks.specs.declared.station.Hold.{Hold}
 use Rattle.locks.specs.declared.station.Station.{Station}
 use Rattle.locks.specs.declared.table.LockTable.{LockTable}
-use Rattle.locks.specs.View.{no_hold, hold_with, hand_with, stations_with, hand_at}
+use Rattle.locks.specs.Hand.{no_hold}
+use Rattle.locks.specs.View.{hold_with, hand_with, stations_with, hand_at}
 use Rattle.locks.specs.Admission.{table_with}
 use Rattle.locks.proofs.Turns.{and_both, or_both}
 use Rattle.locks.proofs.Hands.{mode_kept, exclusive_kept, hand_length, holds_at_place, conflicts_at_place, owned_conflicts_at_place, owns_at_place, shared_at_place}

@@ -11,7 +11,8 @@ use Rattle.rules.specs.Operations.{draft_for, exclusive_in_common}
 use Rattle.rules.specs.Calls.{owns, only_shared}
 use Rattle.locks.specs.declared.station.Hold.{Hold}
 use Rattle.locks.specs.declared.station.Station.{Station}
-use Rattle.locks.specs.View.{no_hold, hold_with, hand_with, place_on, hold_in, held_by}
+use Rattle.locks.specs.Hand.{no_hold}
+use Rattle.locks.specs.View.{hold_with, hand_with, place_on, hold_in, held_by}
 use Rattle.locks.proofs.Turns.{or_both}
 
 -- of the first n places, this is the last with a hold on record r, or there is none

@@ -10,7 +10,8 @@ use Rattle.rules.specs.declared.Stage.TheVariants.{Owned}
 use Rattle.locks.specs.declared.station.Phase.{Phase}
 use Rattle.locks.specs.declared.station.Phase.TheVariants.{Idle, Running, Waiting, Wounded}
 use Rattle.locks.specs.declared.station.Station.{Station}
-use Rattle.locks.specs.View.{no_hold, no_station, phase_of, hand_at, claimed, HasRoom, attempts, active, awaited_in, awaited_at}
+use Rattle.locks.specs.Hand.{no_hold}
+use Rattle.locks.specs.View.{no_station, phase_of, hand_at, claimed, HasRoom, attempts, active, awaited_in, awaited_at}
 use Rattle.locks.specs.Changes.{in_phase, Keeps, change, freed, wounded, wounded_phase, awaiting, waiting_in, granted, granted_in, again, again_in, retired_hold, retired_at, wounded_below}
 
 -- a station read after one was put at s: that one, or what was there

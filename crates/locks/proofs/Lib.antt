@@ -10,3 +10,4 @@ pub mod Before
 pub mod Refusals
 pub mod Drafts
 pub mod ChangedViews
+pub mod Padded

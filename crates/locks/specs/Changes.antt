@@ -7,7 +7,8 @@ use Rattle.locks.specs.declared.station.Hold.{Hold}
 use Rattle.locks.specs.declared.station.Phase.{Phase}
 use Rattle.locks.specs.declared.station.Phase.TheVariants.{Idle, Running, Waiting, Wounded}
 use Rattle.locks.specs.declared.station.Station.{Station}
-use Rattle.locks.specs.View.{no_hold, no_station, HasRoom, active}
+use Rattle.locks.specs.Hand.{no_hold}
+use Rattle.locks.specs.View.{no_station, HasRoom, active}
 
 -- does begin at station s find a station and a stamp?
 abbrev pub begins : ℕ → ℕ → Bool

@@ -1,3 +1,4 @@
+pub mod Hand
 pub mod View
 pub mod Changes
 pub mod Asked

@@ -3,8 +3,6 @@
 use Rattle.std.specs.Prelude.{ℕ, zero, suc, ◌+◌, ◌≤◌, Bool, false, cond, not, List, [], ◌∷◌, length, Some, None, Option, ◌==◌, slice_index_or}
 use Rattle.std.specs.Option.{option_map}
 use Rattle.rules.specs.declared.Mode.{Mode}
-use Rattle.rules.specs.declared.Mode.TheVariants.{Shared}
-use Rattle.rules.specs.declared.Stage.TheVariants.{Owned}
 use Rattle.rules.specs.Searches.{count_below}
 use Rattle.rules.specs.Tables as rules
 use Rattle.rules.specs.Operations.{draft_for}
@@ -12,10 +10,7 @@ use Rattle.locks.specs.declared.station.Hold.{Hold}
 use Rattle.locks.specs.declared.station.Phase.{Phase}
 use Rattle.locks.specs.declared.station.Phase.TheVariants.{Idle, Running, Waiting, Wounded}
 use Rattle.locks.specs.declared.station.Station.{Station}
-
--- what is read past the end of a hand
-abbrev pub no_hold : Hold
-no_hold = record { at = 0; mode = Shared; stage = Owned }
+use Rattle.locks.specs.Hand.{no_hold}
 
 -- an idle station with an empty hand, which is also what is read past the end of the stations
 abbrev pub no_station : Station

@@ -4,7 +4,8 @@ ghost use Rattle.std.specs.Option.{option_map};
 ghost use Rattle.rules.specs.declared.Mode.TheVariants.{Shared};
 ghost use Rattle.rules.specs.Tables.{is_waiting, is_wounded, is_owned, conflict, conflicts, owned_conflicts, hold_on, draft_in, waits_for};
 ghost use Rattle.rules.specs.Operations.{exclusive_in_common};
-ghost use Rattle.locks.specs.View.{phase_of, stamp_of, active, awaited_in, no_hold, hand_with, place_on, hold_in, held_by};
+ghost use Rattle.locks.specs.Hand.{no_hold};
+ghost use Rattle.locks.specs.View.{phase_of, stamp_of, active, awaited_in, hand_with, place_on, hold_in, held_by};
 
 use crate::station::{Hold, Phase, Station};
 use rules::{Mode, Stage};

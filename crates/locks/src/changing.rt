@@ -57,7 +57,7 @@ impl Station {
                 mode,
                 stage: Stage::Owned,
             };
-            self.hand.push(hold);
+            let _ = self.hand.push(hold);
             self.phase = Phase::Running(stamp);
         }
     }
@@ -75,8 +75,9 @@ impl Station {
     pub(crate) fn retire(&mut self, k: usize)
         ensures { self.new ≡ retired_at k self.old }
     {
-        if let Some(hold) = self.hand.get_mut(k) {
-            hold.stage = Stage::Retired;
+        if let Some(hold) = self.hand.get(k).copied() {
+            let stage = Stage::Retired;
+            self.hand.replace(k, Hold { stage, ..hold });
         }
     }
 }

@@ -7,6 +7,7 @@ mod asking;
 mod changes;
 mod changing;
 mod granting;
+pub mod hand;
 mod questions;
 pub mod set;
 pub mod station;

@@ -70,7 +70,9 @@ impl LockTable {
         self.older(j, i) && self.conflicts_on(j, at, mode)
     }
 
-    // Whether a station that is older than station i holds the record in a mode that conflicts.
+    // Whether a station that is older than station i holds the record in a mode that conflicts. A function by itself in the machine code
+    // too: with it inside, `bonds` is no longer taken into its callers, and standing of a short hand takes longer.
+    #[inline(never)]
     fn bound_on(&self, i: usize, at: u32, mode: Mode) -> bool
         ensures { result ≡ any_below 16 (binds_on self.now.stations i at mode) }
     {

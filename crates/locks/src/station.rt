@@ -2,7 +2,7 @@
 ghost use Rattle.std.specs.Prelude.{◌≡◌};
 ghost use Rattle.locks.specs.View.{no_station};
 
-use arrayvec::ArrayVec;
+use crate::hand::Hand;
 use rules::{Mode, Stage};
 
 // One hold: the record, how it is held, and how far it has come. Its draft lies in the drafts shelf.
@@ -15,7 +15,7 @@ pub struct Hold {
 
 // What the unused places of a hand hold. Not derived: in the rules no mode and no stage is a default.
 impl Default for Hold {
-    ghost use Rattle.locks.specs.View.{no_hold};
+    ghost use Rattle.locks.specs.Hand.{no_hold};
 
     ghost is_default = { λ h. h ≡ no_hold };
 
@@ -38,10 +38,10 @@ pub enum Phase {
 }
 
 // The holds of a hand are in the order of their grants.
-#[derive(Drop)]
+#[derive(Clone, Copy)]
 pub struct Station {
     pub phase: Phase,
-    pub hand: ArrayVec<Hold, 16>,
+    pub hand: Hand,
 }
 
 impl Station {
@@ -51,7 +51,7 @@ impl Station {
     {
         Station {
             phase: Phase::Idle,
-            hand: ArrayVec::new(),
+            hand: Hand::new(),
         }
     }
 }

@@ -47,7 +47,7 @@ fn main(rt: HostRuntime) -> anyhow::Result<ExitCode> {
     match run(&rt) {
         Ok(()) => Ok(ExitCode::SUCCESS),
         Err(e) => {
-            eprintln!(rt; "plot: {e:#}")?;
+            eprintln!(rt; "plot: {e}")?;
             Ok(ExitCode::FAILURE)
         }
     }

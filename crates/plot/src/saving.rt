@@ -1,5 +1,5 @@
 // The image in a file: never over a file that is there already, and never half written.
-use anyhow::{Context, anyhow};
+use anyhow::anyhow;
 use std::fs::File;
 use std::io::Write;
 use std::{fs, io};
@@ -13,7 +13,7 @@ pub(crate) fn save_new(rt: &HostRuntime, path: &str, image: &[u8]) -> anyhow::Re
     if fs::exists(rt, path)? {
         return Err(anyhow!("the file is there already and was left as it is: name a new one"));
     }
-    write_new(rt, path, image).context(path)
+    write_new(rt, path, image).map_err(|e| anyhow!("{path}: {e}"))
 }
 
 fn replace(rt: &HostRuntime, path: &str, image: &[u8]) -> io::Result<()> {
@@ -24,5 +24,5 @@ fn replace(rt: &HostRuntime, path: &str, image: &[u8]) -> io::Result<()> {
 
 // Writes beside the file and then takes its place, so that a write that fails leaves the old file.
 pub(crate) fn save(rt: &HostRuntime, path: &str, image: &[u8]) -> anyhow::Result<()> {
-    replace(rt, path, image).context(path)
+    replace(rt, path, image).map_err(|e| anyhow!("{path}: {e}"))
 }

@@ -31,10 +31,10 @@ impl<K: Kind, S: Shelf<K>> Shelf<K> for Numbered<S> {
         }
     }
 
-    // The last clause is the layer's own: below, row n + 1 is written, so row 0 never changes. What the rows then are
-    // follows from it.
+    // The last clause is the layer's own: below, row n + 1 is written, so row 0 never changes.
     fn write(&mut self, n: usize, v: K::Value) -> Result<(), PastCount>
         ensures answer { result ≡ write_answer (drop 1 (S.Shelf.rows self.old.below)) n }
+        ensures after { drop 1 (S.Shelf.rows self.new.below) ≡ slice_set (drop 1 (S.Shelf.rows self.old.below)) n v }
         ensures memory { S.Shelf.memory self.new.below ≡ S.Shelf.memory self.old.below }
         ensures sound { S.Shelf.sound self.old.below → S.Shelf.sound self.new.below }
         ensures below { S.Shelf.rows self.new.below ≡ slice_set (S.Shelf.rows self.old.below) (n + 1) v }

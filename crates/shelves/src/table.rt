@@ -33,6 +33,7 @@ impl<'a, K: Kind> Shelf<K> for Table<'a, K> {
         ensures answer { result ≡ write_answer (map K.Kind.reading self.old.lines.now) n }
         ensures after { map K.Kind.reading self.new.lines.now ≡ slice_set (map K.Kind.reading self.old.lines.now) n v }
         ensures memory { self.new.lines.ghost_name ∷ [] ≡ self.old.lines.ghost_name ∷ [] }
+        ensures sound { Unit {0} → Unit {0} }
         ensures lines { self.new.lines.now ≡ slice_set self.old.lines.now n (K.Kind.numbers v) }
     {
         if n < self.lines.len() {

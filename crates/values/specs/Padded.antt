@@ -79,6 +79,10 @@ refused (Some j) p w k e = inl cc
 refused None (Some j) w k e = inr (refl, cc)
 refused None None w k e = absurd cc
 
+-- bytes that do not offend unpack to the value made of them
+pub accepts : {V : Type 0} (n : ℕ) (offence : List ℕ → Option ℕ) (made : List ℕ → V) (b : List ℕ) → offence b ≡ None → first_nonzero (drop n b) n ≡ None → Ok (made b) ≡ unpadded n offence made b
+accepts n offence made b e f = simp (e, f)
+
 -- lists that agree below k begin alike
 same_front : (xs ys : List ℕ) (k : ℕ) → k ≤ length xs → k ≤ length ys → ((j : ℕ) → j < k → slice_index xs j ≡ slice_index ys j) → take k xs ≡ take k ys
 same_front xs ys k hx hy each =

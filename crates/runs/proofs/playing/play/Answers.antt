@@ -14,7 +14,7 @@ pub loop-entry-init : goal.loop-entry-init
 loop-entry-init g c =
     let home = g.K.Kind.home in let e = c.open-engine.result in let opens = c.open-engine.ensures in
     let records = records_of (length (g.S.Shelf.rows e.show)) (length (g.D.Shelf.rows e.drafts)) in let show = show_of home (g.S.Shelf.rows e.show) in (
-      after_none g.K.Kind.applied c.args.first records show c.args.script.now (view g.K.Kind g.S.Shelf g.D.Shelf e)
+      after_none g.K.Kind.applied c.args.first records show _ (view g.K.Kind g.S.Shelf g.D.Shelf e)
           (opens.new
           ∙ ap (λ x. opened c.args.first (show_of home (g.S.Shelf.rows x)) (records_of (length (g.S.Shelf.rows x)) (length (g.D.Shelf.rows c.args.drafts)))) (sym opens.show)
           ∙ ap (λ x. opened c.args.first show (records_of (length (g.S.Shelf.rows e.show)) (length (g.D.Shelf.rows x)))) (sym opens.drafts)),
@@ -27,7 +27,7 @@ loop-entry-preserved g c =
     let home = g.K.Kind.home in let e = c.open-engine.result in
     let records = records_of (length (g.S.Shelf.rows e.show)) (length (g.D.Shelf.rows e.drafts)) in let show = show_of home (g.S.Shelf.rows e.show) in
     let i = c.loop-entry.entry-index in let long = c.loop-entry.auto.entry-items in let inv = c.loop-entry.invariant in let low = c.loop-entry-test.true in (
-      after_more g.K.Kind.applied c.args.first records show c.args.script.now c.loop-entry.entry-items i
+      after_more g.K.Kind.applied c.args.first records show _ c.loop-entry.entry-items i
           (view g.K.Kind g.S.Shelf g.D.Shelf c.loop-entry.engine) (view g.K.Kind g.S.Shelf g.D.Shelf c.answer.new.self)
           (get_or c.loop-entry.entry-items i c.entry-item.result).call c.answer.result inv.0 low
           (ap (λ (p : Played g.row.K-Value.Denot g.row.K-Change.Denot). p.call) (get_or_default c.loop-entry.entry-items i c.entry-item.result no_entry (omega (arith, low, long))))

@@ -5,7 +5,8 @@ use Rattle.std.proofs.lemmas.Iterator.Search.{any_from_yields_List}
 use Rattle.rules.specs.declared.Mode.TheVariants.{Shared}
 use Rattle.rules.specs.Tables.{conflict, hold_on}
 use Rattle.locks.specs.declared.station.Hold.{Hold}
-use Rattle.locks.specs.View.{no_hold, held_by}
+use Rattle.locks.specs.Hand.{no_hold}
+use Rattle.locks.specs.View.{held_by}
 use Rattle.locks.proofs.Places.{any_by_place}
 use Rattle.locks.proofs.Hands.{common_by_place}
 use Rattle.locks.proofs.station.Station.exclusive_in_common.Goals as goal

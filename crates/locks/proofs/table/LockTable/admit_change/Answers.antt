@@ -4,7 +4,8 @@ use Rattle.rules.specs.declared.Mode.TheVariants.{Shared}
 use Rattle.rules.specs.declared.Refusal.{Refusal}
 use Rattle.rules.specs.declared.Refusal.TheVariants as refusal
 use Rattle.rules.specs.Tables.{conflict}
-use Rattle.locks.specs.View.{no_hold, hand_at}
+use Rattle.locks.specs.Hand.{no_hold}
+use Rattle.locks.specs.View.{hand_at}
 use Rattle.locks.proofs.Kept.{same_read}
 use Rattle.locks.proofs.Refusals.{change_by_mode}
 use Rattle.locks.proofs.table.LockTable.admit_change.Goals as goal

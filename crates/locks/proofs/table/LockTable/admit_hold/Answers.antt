@@ -3,7 +3,8 @@ use Rattle.rules.specs.declared.Refusal.{Refusal}
 use Rattle.rules.specs.declared.Refusal.TheVariants as refusal
 use Rattle.rules.specs.declared.Stage.{Stage}
 use Rattle.rules.specs.Tables.{is_owned}
-use Rattle.locks.specs.View.{no_hold, hand_at, place_on}
+use Rattle.locks.specs.Hand.{no_hold}
+use Rattle.locks.specs.View.{hand_at, place_on}
 use Rattle.locks.proofs.Kept.{same_read, read_as}
 use Rattle.locks.proofs.Refusals.{look_by_hold, named_station, station_below}
 use Rattle.locks.proofs.table.LockTable.admit_hold.Goals as goal

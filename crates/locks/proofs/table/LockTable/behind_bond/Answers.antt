@@ -4,7 +4,8 @@ use Rattle.std.proofs.lemmas.Iterator.{YieldsList-from_slice}
 use Rattle.std.proofs.lemmas.Iterator.Search.{any_from_yields_List}
 use Rattle.std.proofs.lemmas.List.{get_or_default}
 use Rattle.locks.specs.declared.station.Hold.{Hold}
-use Rattle.locks.specs.View.{no_hold, no_station, hand_at}
+use Rattle.locks.specs.Hand.{no_hold}
+use Rattle.locks.specs.View.{no_station, hand_at}
 use Rattle.locks.specs.Asked.{binds_on}
 use Rattle.locks.proofs.Places.{any_by_place}
 use Rattle.locks.proofs.Bonds.{behind_by_place}

@@ -4,7 +4,8 @@ use Rattle.std.proofs.iter.runs.Made.{chains}
 use Rattle.rules.specs.Searches.{any_below}
 use Rattle.rules.specs.Operations.{bonds}
 use Rattle.locks.specs.declared.station.Hold.{Hold}
-use Rattle.locks.specs.View.{no_hold, hand_at}
+use Rattle.locks.specs.Hand.{no_hold}
+use Rattle.locks.specs.View.{hand_at}
 use Rattle.locks.specs.Asked.{binds_on}
 use Rattle.locks.proofs.Places.{count_by_place}
 use Rattle.locks.proofs.Bonds.{no_bonds_past, bonds_by_place}
